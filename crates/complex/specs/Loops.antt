@@ -1,0 +1,58 @@
+-- Counted loops: n steps from a state, and sums from the left. A loop's invariant says that its state is `each k step start`.
+use mathlib.Core.Path.{_≡_, refl, ap, _∙_}
+use Prim.Native.Nat.{ℕ, zero, suc, _+_, _-_, _≤_, _<_}
+use native.Mathlib.Nat.{le-refl}
+use native.Mathlib.Numerals.{add-one}
+use native.Mathlib.Omega.{arith}
+use lib.Ieee.{Float, binary64, add}
+use Rattle.complex.specs.Complex.{addC}
+use Rattle.complex.specs.declared.Complex.{Complex}
+
+-- step 0, then step 1, .. then step n - 1, from z
+unfoldable pub each : {A : Type 0} → ℕ → (ℕ → A → A) → A → A
+each zero g z = z
+each (suc n) g z = g n (each n g z)
+
+-- step lo, then step lo + 1, .. then step hi - 1, from z
+unfoldable pub between : {A : Type 0} → ℕ → ℕ → (ℕ → A → A) → A → A
+between lo hi g z = each (hi - lo) (λ k. g (lo + k)) z
+
+-- ((z + f 0) + f 1) + .. + f (n - 1), each sum rounded
+abbrev pub sumC : ℕ → (ℕ → Complex) → Complex → Complex
+sumC n f z = each n (λ k a. addC a (f k)) z
+
+abbrev pub sumF : ℕ → (ℕ → Float) → Float → Float
+sumF n f z = each n (λ k a. add binary64 a (f k)) z
+
+-- ---- laws: no step, and one step more
+
+pub each-none : {A : Type 0} (g : ℕ → A → A) (z : A) → each 0 g z ≡ z
+unfolding each
+each-none g z = refl
+
+pub each-more : {A : Type 0} (n : ℕ) (g : ℕ → A → A) (z : A) → each (n + 1) g z ≡ g n (each n g z)
+unfolding each
+each-more n g z = rw add-one
+
+pub between-none : {A : Type 0} (lo : ℕ) (g : ℕ → A → A) (z : A) → between lo lo g z ≡ z
+unfolding each between
+between-none lo g z = let e : lo - lo ≡ 0 = omega arith in rw e
+
+pub between-more : {A : Type 0} (lo i : ℕ) (g : ℕ → A → A) (z : A) → lo ≤ i → between lo (i + 1) g z ≡ g i (between lo i g z)
+unfolding between
+between-more lo i g z h =
+    let e : i + 1 - lo ≡ i - lo + 1 = omega arith in
+    let k : lo + (i - lo) ≡ i = omega arith in
+    rw (e, each-more, k)
+
+-- ---- what every step keeps, the loop keeps; loops whose steps agree on what they pass through are equal
+
+pub each-keeps : {A : Type 0} (P : A → Type 0) (n : ℕ) (g : ℕ → A → A) → ((k : ℕ) (a : A) → k < n → P a → P (g k a)) → (z : A) → P z → P (each n g z)
+unfolding each
+each-keeps P zero g h z p = p
+each-keeps P (suc n) g h z p = h n (each n g z) (le-refl (suc n)) (each-keeps P n g (λ k a l. h k a (omega arith)) z p)
+
+pub each-same : {A : Type 0} (n : ℕ) (f g : ℕ → A → A) (z : A) → ((k : ℕ) → k < n → f k (each k g z) ≡ g k (each k g z)) → each n f z ≡ each n g z
+unfolding each
+each-same zero f g z h = refl
+each-same (suc n) f g z h = ap (f n) (each-same n f g z (λ k l. h k (omega arith))) ∙ h n (le-refl (suc n))

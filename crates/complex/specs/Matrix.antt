@@ -1,0 +1,105 @@
+-- Matrices in a list of floats. A column-major matrix of `high` rows has its element (r, c) at number c * high + r.
+use mathlib.Core.Path.{_≡_, sym, ap, _∙_}
+use mathlib.Core.Logic.{⊎-elim}
+use mathlib.Core.List.{List, [], _++_}
+use Prim.Native.Nat.{ℕ, zero, suc, _+_, _*_, _/_, _%_, _≤_, _<_}
+use native.Mathlib.Nat.{add-zero, mod-lt, mod-eq-of-lt, mul-add-mod-self-right, mul-add-div-right, div-eq-of-lt, div-add-mod', div-lt-iff-lt-mul, eq-or-lt-of-le, le-of-suc-le-suc, not-suc-le-zero, mul-le-mul-right}
+use native.Mathlib.Omega.{arith}
+use lib.ListN.{length, length-append}
+use lib.Ieee.{Float}
+use Rattle.complex.specs.Loops.{each}
+use Rattle.complex.specs.Numbers.{count, at, store, numbers, length-store, at-store-same, at-store-other, each-length, each-apart, each-at, ext-at, at-left, at-right, length-numbers, at-numbers}
+use Rattle.complex.specs.declared.Complex.{Complex}
+
+-- the lists f 0, f 1, .. f (n - 1), one after the other: nested `rows` over `numbers` is what nested loops write
+unfoldable pub rows : ℕ → (ℕ → List Float) → List Float
+rows zero f = []
+rows (suc n) f = rows n f ++ f n
+
+-- xs with f r c in the place of the element (r, c), for each row r of the column c; and for each column c < wide
+unfoldable pub column : ℕ → (ℕ → ℕ → Complex) → ℕ → List Float → List Float
+column high f c xs = each high (λ r ys. store ys (c * high + r) (f r c)) xs
+
+unfoldable pub matrix : ℕ → ℕ → (ℕ → ℕ → Complex) → List Float → List Float
+matrix high wide f xs = each wide (column high f) xs
+
+-- ---- places: (r, c) is below wide * high, and two places that are equal are of one row and one column
+
+pub cell-below : (high wide c r : ℕ) → r < high → c < wide → c * high + r < wide * high
+cell-below high wide c r hr hc = omega (arith, mul-le-mul-right high hc)
+
+pub cell-row : (high c r c′ r′ : ℕ) → r < high → r′ < high → c * high + r ≡ c′ * high + r′ → r ≡ r′
+cell-row high c r c′ r′ h h′ e = sym (rem c r h) ∙ ap (λ k. k % high) e ∙ rem c′ r′ h′
+  where
+    rem : (c r : ℕ) → r < high → (c * high + r) % high ≡ r
+    rem c r h = mul-add-mod-self-right c high r ∙ mod-eq-of-lt h
+
+pub cell-column : (high c r c′ r′ : ℕ) → r < high → r′ < high → c * high + r ≡ c′ * high + r′ → c ≡ c′
+cell-column high c r c′ r′ h h′ e = sym (quo c r h) ∙ ap (λ k. k / high) e ∙ quo c′ r′ h′
+  where
+    quo : (c r : ℕ) → r < high → (c * high + r) / high ≡ c
+    quo c r h = mul-add-div-right (omega arith) c r ∙ ap (λ k. c + k) (div-eq-of-lt h) ∙ add-zero c
+
+-- ---- the elements of a matrix
+
+pub length-column : (high : ℕ) (f : ℕ → ℕ → Complex) (c : ℕ) (xs : List Float) → length (column high f c xs) ≡ length xs
+unfolding column
+length-column high f c xs = each-length high _ xs (λ r ys h. length-store ys (c * high + r) (f r c))
+
+pub length-matrix : (high wide : ℕ) (f : ℕ → ℕ → Complex) (xs : List Float) → length (matrix high wide f xs) ≡ length xs
+unfolding matrix
+length-matrix high wide f xs = each-length wide _ xs (λ c ys h. length-column high f c ys)
+
+-- the element (r, c) is f r c
+pub at-matrix : (high wide : ℕ) (f : ℕ → ℕ → Complex) (xs : List Float) (r c : ℕ) → r < high → c < wide → wide * high ≤ count xs
+    → at (matrix high wide f xs) (c * high + r) ≡ f r c
+unfolding matrix column
+at-matrix high wide f xs r c hr hc room =
+    each-at wide (column high f) xs (c * high + r) c (f r c) (λ i ys h. length-column high f i ys) hc
+    (λ ys e. each-at high (λ k zs. store zs (c * high + k) (f k c)) ys (c * high + r) r (f r c)
+    (λ k zs h. length-store zs (c * high + k) (f k c)) hr
+    (λ zs e′. at-store-same zs (c * high + r) (f r c) (omega (arith, cell-below high wide c r hr hc)))
+    (λ k zs a b. at-store-other zs (c * high + k) (c * high + r) (f k c) (omega arith)))
+    (λ d ys a b. each-apart high _ ys (c * high + r) (λ k zs h. at-store-other zs (d * high + k) (c * high + r) (f k d) (omega (arith, mul-le-mul-right high a))))
+
+-- what lies past the matrix is as it was
+pub at-matrix-past : (high wide : ℕ) (f : ℕ → ℕ → Complex) (xs : List Float) (j : ℕ) → wide * high ≤ j → at (matrix high wide f xs) j ≡ at xs j
+unfolding matrix column
+at-matrix-past high wide f xs j h =
+    each-apart wide _ xs j (λ c ys hc. each-apart high _ ys j (λ r zs hr. at-store-other zs (c * high + r) j (f r c) (omega (arith, cell-below high wide c r hr hc))))
+
+-- ---- rows of m numbers each
+
+module _ (m : ℕ) (f : ℕ → List Float) (len : (c : ℕ) → length (f c) ≡ 2 * m) where
+  pub length-rows : (n : ℕ) → length (rows n f) ≡ 2 * (n * m)
+  unfolding rows
+  length-rows zero = omega arith
+  length-rows (suc n) = length-append (rows n f) (f n) ∙ omega (arith, length-rows n, len n)
+
+  pub at-rows : (n c r : ℕ) → c < n → r < m → at (rows n f) (c * m + r) ≡ at (f c) r
+  unfolding rows
+  at-rows zero c r h l = absurd (not-suc-le-zero h)
+  at-rows (suc n) c r h l =
+      ⊎-elim
+      (λ (e : c ≡ n). rw e (at-right (rows n f) (f n) (n * m) r (length-rows n)))
+      (λ (k : c < n). at-left (rows n f) (f n) (c * m + r) (omega (arith, length-rows n, mul-le-mul-right m k)) ∙ at-rows n c r k l)
+      (eq-or-lt-of-le (le-of-suc-le-suc h))
+
+-- a matrix that fills its list is rows of numbers, whatever the list held
+pub matrix-rows : (high wide : ℕ) (f : ℕ → ℕ → Complex) (xs : List Float) → length xs ≡ 2 * (wide * high)
+    → matrix high wide f xs ≡ rows wide (λ c. numbers high (λ r. f r c))
+matrix-rows high wide f xs e = ext-at (wide * high) _ _ (length-matrix high wide f xs ∙ e) (length-rows high _ (λ c. length-numbers high (λ r. f r c)) wide) (λ k h.
+    at-cell k (k / high) (k % high) (sym (div-add-mod' k high)) (div-lt-iff-lt-mul (some k h) .1 h) (mod-lt k (some k h)))
+  where
+    some : (k : ℕ) → k < wide * high → 0 < high
+    some k h = positive high h
+      where
+        positive : (m : ℕ) → k < wide * m → 0 < m
+        positive zero l = absurd (omega arith)
+        positive (suc m) l = omega arith
+
+    at-cell : (k c r : ℕ) → k ≡ c * high + r → c < wide → r < high → at (matrix high wide f xs) k ≡ at (rows wide (λ c. numbers high (λ r. f r c))) k
+    at-cell k c r q hc hr =
+        rw q
+        (at-matrix high wide f xs r c hr hc (omega arith)
+        ∙ sym (at-rows high _ (λ c. length-numbers high (λ r. f r c)) wide c r hc hr ∙ at-numbers high (λ r. f r c) r hr))

@@ -1,0 +1,151 @@
+-- Complex numbers in a list of floats: number k stands at 2 k, its real part, and 2 k + 1.
+use mathlib.Core.Path.{_≡_, refl, sym, ap, _∙_}
+use mathlib.Core.Logic.{_≢_, ⊎-elim}
+use mathlib.Core.List.{List, [], _∷_, _++_}
+use Prim.Native.Nat.{ℕ, zero, suc, _+_, _*_, _/_, _%_, _≤_, _<_}
+use native.Mathlib.Nat.{le-refl, eq-or-lt-of-le, not-suc-le-zero, le-of-suc-le-suc}
+use native.Mathlib.Omega.{arith}
+use lib.ListN.{length, getD, set, length-set, length-append, List·getD-append}
+use lib.Seq.{ext-getD, getD-set-same, getD-set-other, getD-append-add}
+use lib.Ieee.{Float, nan}
+use Rattle.complex.specs.Loops.{each, each-keeps}
+use Rattle.complex.specs.declared.Complex.{Complex}
+
+-- how many complex numbers a list holds
+abbrev pub count : List Float → ℕ
+count xs = length xs / 2
+
+-- number k. Past the list's end it is `nan`, as a slice reads there to a proof
+unfoldable pub at : List Float → ℕ → Complex
+at xs k = record { re = getD xs (2 * k) nan; im = getD xs (2 * k + 1) nan }
+
+-- the list with z in the place of number k
+unfoldable pub store : List Float → ℕ → Complex → List Float
+store xs k z = set (set xs (2 * k) (z .re)) (2 * k + 1) (z .im)
+
+-- the list with f k in the place of number p k, for k = 0, 1, .. n - 1
+abbrev pub stores : ℕ → (ℕ → ℕ) → (ℕ → Complex) → List Float → List Float
+stores n p f xs = each n (λ k ys. store ys (p k) (f k)) xs
+
+-- f 0, f 1, .. f (n - 1), one after the other: complex numbers, and real ones
+unfoldable pub numbers : ℕ → (ℕ → Complex) → List Float
+numbers zero f = []
+numbers (suc n) f = let z = f n in numbers n f ++ (z .re ∷ z .im ∷ [])
+
+unfoldable pub reals : ℕ → (ℕ → Float) → List Float
+reals zero f = []
+reals (suc n) f = reals n f ++ (f n ∷ [])
+
+-- ---- laws of a store
+
+pub length-store : (xs : List Float) (k : ℕ) (z : Complex) → length (store xs k z) ≡ length xs
+unfolding store
+length-store xs k z = simp length-set
+
+pub at-store-same : (xs : List Float) (k : ℕ) (z : Complex) → k < count xs → at (store xs k z) k ≡ z
+unfolding store at
+at-store-same xs k z h i = record {
+  re = (getD-set-other (set xs (2 * k) (z .re)) (2 * k + 1) (2 * k) (z .im) nan (omega arith) ∙ getD-set-same xs (2 * k) (z .re) nan (omega arith)) i;
+  im = getD-set-same (set xs (2 * k) (z .re)) (2 * k + 1) (z .im) nan (simp length-set (omega arith)) i;
+}
+
+pub at-store-other : (xs : List Float) (j k : ℕ) (z : Complex) → k ≢ j → at (store xs j z) k ≡ at xs k
+unfolding store at
+at-store-other xs j k z h i = record {
+  re = (getD-set-other (set xs (2 * j) (z .re)) (2 * j + 1) (2 * k) (z .im) nan (omega arith) ∙ getD-set-other xs (2 * j) (2 * k) (z .re) nan (omega arith)) i;
+  im = (getD-set-other (set xs (2 * j) (z .re)) (2 * j + 1) (2 * k + 1) (z .im) nan (omega arith) ∙ getD-set-other xs (2 * j) (2 * k + 1) (z .re) nan (omega arith)) i;
+}
+
+-- ---- loops that store
+
+-- as many numbers as before
+pub each-length : (n : ℕ) (g : ℕ → List Float → List Float) (xs : List Float) → ((k : ℕ) (ys : List Float) → k < n → length (g k ys) ≡ length ys) → length (each n g xs) ≡ length xs
+each-length n g xs h = each-keeps (λ (ys : List Float). length ys ≡ length xs) n g (λ k ys l e. h k ys l ∙ e) xs refl
+
+-- number j is as it was
+pub each-apart : (n : ℕ) (g : ℕ → List Float → List Float) (xs : List Float) (j : ℕ) → ((k : ℕ) (ys : List Float) → k < n → at (g k ys) j ≡ at ys j) → at (each n g xs) j ≡ at xs j
+each-apart n g xs j h = each-keeps (λ (ys : List Float). at ys j ≡ at xs j) n g (λ k ys l e. h k ys l ∙ e) xs refl
+
+-- number j is what step k leaves there, where the steps after k leave it alone
+pub each-at : (n : ℕ) (g : ℕ → List Float → List Float) (xs : List Float) (j k : ℕ) (v : Complex)
+    → ((i : ℕ) (ys : List Float) → i < n → length (g i ys) ≡ length ys)
+    → k < n → ((ys : List Float) → length ys ≡ length xs → at (g k ys) j ≡ v)
+    → ((i : ℕ) (ys : List Float) → k < i → i < n → at (g i ys) j ≡ at ys j)
+    → at (each n g xs) j ≡ v
+unfolding each
+each-at zero g xs j k v len l here later = absurd (not-suc-le-zero l)
+each-at (suc n) g xs j k v len l here later =
+    ⊎-elim
+    (λ (e : k ≡ n). ap (λ (i : ℕ). at (g i (each n g xs)) j) (sym e) ∙ here (each n g xs) (each-length n g xs (λ i ys m. len i ys (omega arith))))
+    (λ (m : k < n). later n (each n g xs) m (le-refl (suc n)) ∙ each-at n g xs j k v (λ i ys b. len i ys (omega arith)) m here (λ i ys a b. later i ys a (omega arith)))
+    (eq-or-lt-of-le (le-of-suc-le-suc l))
+
+-- stores at places that differ: each number is there, and every other place is as it was
+module _ (n : ℕ) (p : ℕ → ℕ) (f : ℕ → Complex) (xs : List Float) where
+  pub length-stores : length (stores n p f xs) ≡ length xs
+  length-stores = each-length n _ xs (λ k ys h. length-store ys (p k) (f k))
+
+  pub at-stores : (k : ℕ) → k < n → p k < count xs → ((i : ℕ) → k < i → i < n → p k ≢ p i) → at (stores n p f xs) (p k) ≡ f k
+  at-stores k h room apart =
+      each-at n (λ i ys. store ys (p i) (f i)) xs (p k) k (f k) (λ i ys l. length-store ys (p i) (f i)) h
+      (λ ys e. at-store-same ys (p k) (f k) (omega arith)) (λ i ys a b. at-store-other ys (p i) (p k) (f i) (apart i a b))
+
+  pub at-stores-other : (j : ℕ) → ((i : ℕ) → i < n → j ≢ p i) → at (stores n p f xs) j ≡ at xs j
+  at-stores-other j apart = each-apart n _ xs j (λ i ys l. at-store-other ys (p i) j (f i) (apart i l))
+
+-- ---- two lists of n numbers that agree at each number are equal
+
+pub ext-at : (n : ℕ) (xs ys : List Float) → length xs ≡ 2 * n → length ys ≡ 2 * n → ((k : ℕ) → k < n → at xs k ≡ at ys k) → xs ≡ ys
+unfolding at
+ext-at n xs ys hx hy h = ext-getD nan xs ys (hx ∙ sym hy) (λ i l. halves i (i / 2) (i % 2) (omega arith) (omega arith) (omega arith))
+  where
+    halves : (i k b : ℕ) → i ≡ 2 * k + b → b < 2 → k < n → getD xs i nan ≡ getD ys i nan
+    halves i k zero e hb hk = let e′ : i ≡ 2 * k = omega arith in rw e′ (ap (λ z. z .re) (h k hk))
+    halves i k (suc zero) e hb hk = let e′ : i ≡ 2 * k + 1 = omega arith in rw e′ (ap (λ z. z .im) (h k hk))
+    halves i k (suc (suc b)) e hb hk = absurd (omega arith)
+
+-- ---- number k of two lists joined
+
+pub at-left : (xs ys : List Float) (k : ℕ) → 2 * k + 1 < length xs → at (xs ++ ys) k ≡ at xs k
+unfolding at
+at-left xs ys k h i = record { re = List·getD-append xs ys nan (2 * k) (omega arith) i; im = List·getD-append xs ys nan (2 * k + 1) h i }
+
+pub at-right : (xs ys : List Float) (n r : ℕ) → length xs ≡ 2 * n → at (xs ++ ys) (n + r) ≡ at ys r
+unfolding at
+at-right xs ys n r e =
+    let a : 2 * (n + r) ≡ length xs + 2 * r = omega arith in
+    let b : 2 * (n + r) + 1 ≡ length xs + (2 * r + 1) = omega arith in
+    λ i. record {
+      re = (ap (λ (k : ℕ). getD (xs ++ ys) k nan) a ∙ getD-append-add xs ys (2 * r) nan) i;
+      im = (ap (λ (k : ℕ). getD (xs ++ ys) k nan) b ∙ getD-append-add xs ys (2 * r + 1) nan) i;
+    }
+
+-- ---- laws of `numbers` and `reals`
+
+pub length-numbers : (n : ℕ) (f : ℕ → Complex) → length (numbers n f) ≡ 2 * n
+unfolding numbers
+length-numbers zero f = refl
+length-numbers (suc n) f = length-append (numbers n f) (f n .re ∷ f n .im ∷ []) ∙ omega (arith, length-numbers n f)
+
+pub length-reals : (n : ℕ) (f : ℕ → Float) → length (reals n f) ≡ n
+unfolding reals
+length-reals zero f = refl
+length-reals (suc n) f = length-append (reals n f) (f n ∷ []) ∙ omega (arith, length-reals n f)
+
+pub at-numbers : (n : ℕ) (f : ℕ → Complex) (k : ℕ) → k < n → at (numbers n f) k ≡ f k
+unfolding numbers at
+at-numbers zero f k h = absurd (not-suc-le-zero h)
+at-numbers (suc n) f k h =
+    ⊎-elim
+    (λ (e : k ≡ n). rw e (last n f))
+    (λ (l : k < n). at-left (numbers n f) (f n .re ∷ f n .im ∷ []) k (omega (arith, length-numbers n f)) ∙ at-numbers n f k l)
+    (eq-or-lt-of-le (le-of-suc-le-suc h))
+  where
+    last : (n : ℕ) (f : ℕ → Complex) → at (numbers n f ++ (f n .re ∷ f n .im ∷ [])) n ≡ f n
+    last n f = let e : n ≡ n + 0 = omega arith in ap (at (numbers n f ++ (f n .re ∷ f n .im ∷ []))) e ∙ at-right (numbers n f) (f n .re ∷ f n .im ∷ []) n 0 (length-numbers n f)
+
+-- stores at 0, 1, .. n - 1 over a list of n numbers
+pub stores-numbers : (n : ℕ) (f : ℕ → Complex) (xs : List Float) → length xs ≡ 2 * n → stores n (λ k. k) f xs ≡ numbers n f
+stores-numbers n f xs e =
+    ext-at n _ (numbers n f) (length-stores n (λ k. k) f xs ∙ e) (length-numbers n f)
+    (λ k h. at-stores n (λ k. k) f xs k h (omega arith) (λ i a b. omega arith) ∙ sym (at-numbers n f k h))

@@ -1,0 +1,53 @@
+-- A part of a list, and a list with a part replaced: what lending a part of a slice computes to.
+use mathlib.Core.Path.{_≡_, sym, ap, _∙_}
+use mathlib.Core.List.{List, _++_, append-assoc}
+use Prim.Native.Nat.{ℕ, _+_, _-_, _≤_}
+use native.Mathlib.Omega.{arith}
+use lib.ListN.{length, take, drop, length-append, length-take, length-drop, take-append-drop}
+use lib.Seq.{length-take-le, take-at, drop-at, take-append-le, drop-append-le, drop-append-add, drop-drop}
+
+-- what `&xs[a..e]` refers to
+abbrev pub part : {A : Type 0} → ℕ → ℕ → List A → List A
+part a e xs = take (e - a) (drop a xs)
+
+-- what xs holds after a call that was lent `&mut xs[a..e]` and left ys there
+abbrev pub put : {A : Type 0} → ℕ → ℕ → List A → List A → List A
+put a e xs ys = take a xs ++ (ys ++ drop (e - a) (drop a xs))
+
+-- ---- laws
+
+module _ {A : Type 0} (a e : ℕ) (xs : List A) (h : a ≤ e) (l : e ≤ length xs) where
+  pub length-part : length (part a e xs) ≡ e - a
+  length-part = length-take-le (e - a) (drop a xs) (simp length-drop (omega arith))
+
+  module _ (ys : List A) (n : length ys ≡ e - a) where
+    head : length (take a xs) ≡ a
+    head = length-take-le a xs (omega arith)
+
+    pub length-put : length (put a e xs ys) ≡ length xs
+    length-put = simp (length-append, length-take-le a xs (omega arith), length-drop) (omega arith)
+
+    -- what was put is there, and what is put twice in one place is put once
+    pub part-put : part a e (put a e xs ys) ≡ ys
+    part-put = ap (take (e - a)) (drop-at (take a xs) _ a head) ∙ take-at ys _ (e - a) n
+
+    pub put-put : (zs : List A) → put a e (put a e xs ys) zs ≡ put a e xs zs
+    put-put zs = rw (take-at (take a xs) (ys ++ drop (e - a) (drop a xs)) a head, drop-at (take a xs) (ys ++ drop (e - a) (drop a xs)) a head, drop-at ys (drop (e - a) (drop a xs)) (e - a) n)
+
+    -- a part that lies before or after is as it was
+    pub part-put-before : (b f : ℕ) → b ≤ f → f ≤ a → part b f (put a e xs ys) ≡ part b f xs
+    part-put-before b f hb hf = front (take a xs) (ys ++ drop (e - a) (drop a xs)) b f hb (omega (arith, head)) ∙ sym (front (take a xs) (drop a xs) b f hb (omega (arith, head))) ∙ ap (part b f) (take-append-drop a xs)
+      where
+        front : (p q : List A) (b f : ℕ) → b ≤ f → f ≤ length p → part b f (p ++ q) ≡ part b f p
+        front p q b f hb hf = rw (drop-append-le b p q (omega arith)) (take-append-le (f - b) (drop b p) q (simp length-drop (omega arith)))
+
+    pub drop-put : (b : ℕ) → e ≤ b → drop b (put a e xs ys) ≡ drop b xs
+    drop-put b hb =
+        let rest = drop (e - a) (drop a xs) in
+        let k : b ≡ length (take a xs ++ ys) + (b - e) = simp (length-append, length-take-le a xs (omega arith)) (omega arith) in
+        let m : a + (e - a + (b - e)) ≡ b = omega arith in
+        ap (drop b) (sym (append-assoc (take a xs) ys rest)) ∙ ap (λ j. drop j ((take a xs ++ ys) ++ rest)) k ∙ drop-append-add (take a xs ++ ys) rest (b - e)
+        ∙ drop-drop (b - e) (e - a) (drop a xs) ∙ drop-drop (e - a + (b - e)) a xs ∙ ap (λ j. drop j xs) m
+
+    pub part-put-after : (b f : ℕ) → e ≤ b → part b f (put a e xs ys) ≡ part b f xs
+    part-put-after b f hb = ap (take (f - b)) (drop-put b hb)
