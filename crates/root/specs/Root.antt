@@ -1,0 +1,113 @@
+-- The square root of binary64 (IEEE 754-2019, 5.4.1, squareRoot): the definition that the contracts cite, and its special values.
+-- That it is the value of the format nearest to the exact root, and never a tie, is `root-nearest` and `root-no-tie` of `Theorems.antt`. Assumes nothing.
+use mathlib.Core.Path.{_≡_, refl}
+use mathlib.Core.Bool.{Bool, true, false, not}
+use Prim.Native.Nat.{ℕ, zero, suc, _+_, _*_, _/_, _^_, _≤_, _<_}
+use native.Mathlib.Omega.{arith}
+use lib.Dec.{T, ltb→lt}
+use lib.Arith.{le→nltb}
+use lib.IntN.{pos}
+use lib.Ieee.{Float, nan, inf, fin, up, down, size, odd, lt, ofBits}
+use lib.Ieee.Exact.{odd-sign}
+use lib.Ieee.Positive.{positive}
+use Rattle.complex.specs.Complex.{zeroF, oneF}
+use Rattle.root.specs.Units.{inUnits, signClear, value-sign}
+use Rattle.root.specs.Whole.{wholeRoot}
+
+-- The root of n units of 2 ^ -1074, for n above 0. The root of the number n has h binary digits, where h is half of n's digits, rounded up.
+-- So the whole root of n * 4 ^ (54 - h) has 54 digits, w, and half of w, rounded up, has 53: the result's significand.
+-- The root of a unit is 2 ^ -537, so the last digit of w / 2 weighs 2 ^ (h - 53 - 537), which is 2 ^ (h + 484) units.
+unfoldable pub rootOfUnits : ℕ → Float
+unfolding wholeRoot size odd
+rootOfUnits n =
+    let h = suc (size n) / 2 in
+    let w = wholeRoot 54 (n * 4 ^ 54 / 4 ^ h) in
+    odd 53 false (suc w / 2) (h + 484) 1074
+
+-- A zero is its own root, with its sign, and so is the infinity. Nothing else below zero has a root.
+unfoldable pub rootOf : Float → Float
+unfolding rootOfUnits inUnits
+rootOf nan = nan
+rootOf (inf true) = nan
+rootOf (inf false) = inf false
+rootOf (fin s zero e) = fin s zero e
+rootOf (fin true (suc m) e) = nan
+rootOf (fin false (suc m) e) = rootOfUnits (inUnits (fin false (suc m) e))
+
+-- ---- special values
+
+pub root-zero : (s : Bool) → rootOf (fin s 0 (pos 0)) ≡ fin s 0 (pos 0)
+unfolding rootOf
+root-zero s = refl
+
+pub root-inf : rootOf (inf false) ≡ inf false
+unfolding rootOf
+root-inf = refl
+
+pub root-nan : rootOf nan ≡ nan
+unfolding rootOf
+root-nan = refl
+
+-- below zero, the infinity included and -0 not
+pub root-negative : (x : Float) → T (lt x zeroF) → rootOf x ≡ nan
+unfolding rootOf lt ofBits
+root-negative nan h = refl
+root-negative (inf true) h = refl
+root-negative (inf false) h = absurd h
+root-negative (fin true zero e) h = absurd (none (up e) (down e) (ltb→lt 0 (0 * up e * 1 + 0 * down e) h))
+  where
+    none : (u d : ℕ) → 0 < 0 * u * 1 + 0 * d → ⊥
+    none u d l = omega arith
+root-negative (fin false m e) h = absurd (none (m * up e * 1) (down e) (ltb→lt (m * up e * 1) (0 * down e) h))
+  where
+    none : (a d : ℕ) → a < 0 * d → ⊥
+    none a d l = omega arith
+root-negative (fin true (suc m) e) h = refl
+
+-- no root is below zero
+clear-not-negative : (v : Float) → T (signClear v) → T (not (lt v zeroF))
+unfolding lt ofBits
+clear-not-negative nan p = tt
+clear-not-negative (inf true) p = absurd p
+clear-not-negative (inf false) p = tt
+clear-not-negative (fin true m e) p = absurd p
+clear-not-negative (fin false m e) p = le→nltb (m * up e * 1) (0 * down e) (least (m * up e * 1) (down e))
+  where
+    least : (a d : ℕ) → 0 * d ≤ a
+    least a d = omega arith
+
+pub root-not-negative : (x : Float) → T (not (lt (rootOf x) zeroF))
+unfolding rootOf rootOfUnits lt ofBits
+root-not-negative nan = tt
+root-not-negative (inf true) = tt
+root-not-negative (inf false) = tt
+root-not-negative (fin true zero e) = le→nltb 0 (0 * up e * 1 + 0 * down e) (none (up e) (down e))
+  where
+    none : (u d : ℕ) → 0 * u * 1 + 0 * d ≤ 0
+    none u d = omega arith
+root-not-negative (fin false zero e) = clear-not-negative (fin false zero e) tt
+root-not-negative (fin true (suc m) e) = tt
+root-not-negative (fin false (suc m) e) =
+    let n = inUnits (fin false (suc m) e) in
+    let h = suc (size n) / 2 in
+    let q = suc (wholeRoot 54 (n * 4 ^ 54 / 4 ^ h)) / 2 in
+    clear-not-negative (rootOfUnits n) (value-sign (rootOfUnits n) (q * 2 ^ (h + 484)) (2 ^ 1074) (odd-sign 53 false q (h + 484) 1074))
+
+-- 1, by its value and as a program writes 1.0
+pub root-one : rootOf (fin false 1 (pos 0)) ≡ fin false 1 (pos 0)
+unfolding rootOf
+root-one = refl
+
+pub root-oneF : rootOf oneF ≡ oneF
+unfolding rootOf ofBits
+root-oneF = refl
+
+-- ---- a finite value above zero
+
+pub root-units : (x : Float) → T (positive x) → rootOf x ≡ rootOfUnits (inUnits x)
+unfolding rootOf
+root-units nan p = absurd p
+root-units (inf s) p = absurd p
+root-units (fin true m e) p = absurd p
+root-units (fin false zero e) p = absurd p
+root-units (fin false (suc m) e) p = refl

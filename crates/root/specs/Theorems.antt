@@ -1,0 +1,52 @@
+-- What is proved of the root. `root-nearest` and `only-nearest` together say which value `rootOf x` is: the one that IEEE 754-2019 asks for (`Nearest.antt`). Assumes nothing.
+use mathlib.Core.Path.{_≡_, ap, _∙_, subst}
+use mathlib.Core.Bool.{true, false}
+use Prim.Native.Nat.{ℕ, zero, suc, _*_, _^_, _≤_, _<_}
+use native.Mathlib.Nat.{lt-irrefl, zero-lt-suc, add-comm, mul-le-mul-right}
+use lib.Dec.{T, lt→ltb}
+use lib.Ieee.{Float, nan, inf, fin, binary64, fits}
+use lib.Ieee.Fits.{nan-fits, inf-fits}
+use lib.Ieee.Positive.{positive}
+use Rattle.root.specs.Units.{inUnits}
+use Rattle.root.specs.Root.{rootOf}
+use Rattle.root.specs.Nearest.{Candidate, Nearest, midpoint}
+use Rattle.root.specs.NearestLaws.{neither, strict, one-nearest, exact-nearest, nearest-grows}
+use Rattle.root.specs.Rounding.{root-candidate, root-strict-above, root-strict-below}
+
+-- `Nearest` holds of one value, whatever the square q, ties and overflow included
+pub only-nearest : (r s : Float) (q : ℕ) → Nearest r q → Nearest s q → r ≡ s
+only-nearest = one-nearest
+
+-- the root of a finite x above zero, subnormal ones included: the square q is x, which is inUnits x * 2 ^ 1074 times 2 ^ -2148
+pub root-nearest : (x : Float) → T (fits binary64 x) → T (positive x) → Nearest (rootOf x) (inUnits x * 2 ^ 1074)
+root-nearest x h p = record {
+  value = root-candidate x h p;
+  above = λ y C l. strict (rootOf x) (4 * (inUnits x * 2 ^ 1074)) (midpoint (rootOf x) y) (root-strict-above x h p y C l);
+  below = λ y C l. strict (rootOf x) (midpoint y (rootOf x)) (4 * (inUnits x * 2 ^ 1074)) (root-strict-below x h p y C l);
+}
+
+-- it is at no midpoint, so the rule for ties is never asked
+pub root-no-tie : (x y : Float) → T (fits binary64 x) → T (positive x) → Candidate y → 4 * (inUnits x * 2 ^ 1074) ≡ midpoint (rootOf x) y → y ≡ rootOf x
+root-no-tie x y h p C e = neither y (rootOf x) C (root-candidate x h p)
+    (λ l. lt-irrefl (midpoint y (rootOf x)) (subst (λ (z : ℕ). midpoint y (rootOf x) < z) (e ∙ ap (λ (z : ℕ). z * z) (add-comm (inUnits (rootOf x)) (inUnits y))) (root-strict-below x h p y C l)))
+    (λ l. lt-irrefl (midpoint (rootOf x) y) (subst (λ (z : ℕ). z < midpoint (rootOf x) y) e (root-strict-above x h p y C l)))
+
+-- ---- what follows
+
+-- the root of a value of the format is one
+pub root-fits : (x : Float) → T (fits binary64 x) → T (fits binary64 (rootOf x))
+unfolding rootOf
+root-fits nan h = nan-fits binary64
+root-fits (inf true) h = nan-fits binary64
+root-fits (inf false) h = inf-fits binary64 false
+root-fits (fin s zero e) h = h
+root-fits (fin true (suc m) e) h = nan-fits binary64
+root-fits (fin false (suc m) e) h = root-candidate (fin false (suc m) e) h (lt→ltb 0 (suc m) (zero-lt-suc m)) .held
+
+-- the root of y * y is y, where y * y is exact
+pub root-of-square : (x y : Float) → T (fits binary64 x) → T (positive x) → Candidate y → inUnits x * 2 ^ 1074 ≡ inUnits y * inUnits y → rootOf x ≡ y
+root-of-square x y h p C e = only-nearest (rootOf x) y (inUnits x * 2 ^ 1074) (root-nearest x h p) (exact-nearest y (inUnits x * 2 ^ 1074) C e)
+
+-- the root grows with its argument
+pub root-grows : (x y : Float) → T (fits binary64 x) → T (positive x) → T (fits binary64 y) → T (positive y) → inUnits x ≤ inUnits y → inUnits (rootOf x) ≤ inUnits (rootOf y)
+root-grows x y hx px hy py l = nearest-grows (rootOf x) (rootOf y) (inUnits x * 2 ^ 1074) (inUnits y * 2 ^ 1074) (root-nearest x hx px) (root-nearest y hy py) (mul-le-mul-right (2 ^ 1074) l)
