@@ -11,6 +11,7 @@ use lib.Pow.{pow-pos, shl-exact}
 use lib.Dec.{T}
 use lib.Ieee.{binary64, odd, ofFields, ofBits, nanBits}
 use Rattle.root.specs.Units.{pattern-real}
+use Rattle.root.specs.Root.{halfUp}
 use Rattle.root.specs.Whole.{wholeRoot, only-root}
 use Rattle.root.specs.Digits.{digitsOf, digits-root}
 use Rattle.root.specs.Parts.{scaled, half, fromParts, parity, parts-root, half-digits}
@@ -61,7 +62,7 @@ module _ (p c : ℕ) (P : p ≤ 2098) (L : 2 ^ 52 ≤ c) (H : c < 2 ^ 53) (w : �
 
   -- the pattern that the function makes
   same-pattern : ((p + 1) / 2 + 484) * 2 ^ 52 + (w + 1) / 2 ≡ (suc p / 2 + 484) * 2 ^ 52 + half p c
-  unfolding half
+  unfolding half halfUp
   same-pattern = ap₂ (λ (x y : ℕ). (x / 2 + 484) * 2 ^ 52 + y / 2) (add-one p) (add-one w ∙ ap suc digits-found)
 
   pub pattern-no-nan : T (not (nanBits binary64 (((p + 1) / 2 + 484) * 2 ^ 52 + (w + 1) / 2)))

@@ -12,9 +12,9 @@ pub record Candidate (y : Float) : Type 0 where
   pub held : T (fits binary64 y)
   pub sign : T (signClear y)
 
--- four times the square of the midpoint of x and y
-abbrev pub midpoint : Float → Float → ℕ
-midpoint x y = (inUnits x + inUnits y) * (inUnits x + inUnits y)
+-- (x + y) * (x + y) in squares of a unit, which is four times the square of the midpoint of x and y
+abbrev pub squareOfSum : Float → Float → ℕ
+squareOfSum x y = (inUnits x + inUnits y) * (inUnits x + inUnits y)
 
 -- The least significant digit of the significand is even. It is the last of the bit pattern: that of the infinity is even, and that of the largest finite value is odd.
 -- So a root at or above the midpoint of those two is rounded to the infinity, as 4.3.1 has it: from 2 ^ 1023 * (2 - 2 ^ -53) on.
@@ -24,5 +24,5 @@ Even r = toBits binary64 r % 2 ≡ 0
 -- r is nearest to the root of q: the root lies at or below the midpoint of r and each larger candidate, and at or above that of r and each smaller one. It lies at a midpoint only where r is even.
 pub record Nearest (r : Float) (q : ℕ) : Type 0 where
   pub value : Candidate r
-  pub above : (y : Float) → Candidate y → inUnits r < inUnits y → (4 * q ≤ midpoint r y) × (4 * q ≡ midpoint r y → Even r)
-  pub below : (y : Float) → Candidate y → inUnits y < inUnits r → (midpoint y r ≤ 4 * q) × (midpoint y r ≡ 4 * q → Even r)
+  pub above : (y : Float) → Candidate y → inUnits r < inUnits y → (4 * q ≤ squareOfSum r y) × (4 * q ≡ squareOfSum r y → Even r)
+  pub below : (y : Float) → Candidate y → inUnits y < inUnits r → (squareOfSum y r ≤ 4 * q) × (squareOfSum y r ≡ 4 * q → Even r)

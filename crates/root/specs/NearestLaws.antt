@@ -6,7 +6,7 @@ use native.Mathlib.Omega.{arith}
 use lib.Dec.{T}
 use lib.Ieee.{Float, binary64, toBits, ofBits}
 use Rattle.root.specs.Units.{inUnits, same-units, bits-lt, units-lt, units-top, at-pattern}
-use Rattle.root.specs.Nearest.{Candidate, Even, Nearest, midpoint}
+use Rattle.root.specs.Nearest.{Candidate, Even, Nearest, squareOfSum}
 
 pub square-lt : (a b : ℕ) → a < b → a * a < b * b
 square-lt a b h = lt-of-le-of-lt (mul-le-mul-left a (le-of-lt h)) (mul-lt-mul-of-pos-right h (lt-of-le-of-lt Prim.Native.Nat.zero-le h))
@@ -49,7 +49,7 @@ pub not-both : (r s : Float) (q : ℕ) → Nearest r q → Nearest s q → inUni
 not-both r s q R S h =
     let a = R .above s (S .value) h in
     let b = S .below r (R .value) h in
-    let e : 4 * q ≡ midpoint r s = le-antisymm (a .0) (b .0) in
+    let e : 4 * q ≡ squareOfSum r s = le-antisymm (a .0) (b .0) in
     let t = between r s (R .value) (S .value) h (a .1 e) (b .1 (sym e)) in
     not-le-of-lt
     (square-lt (inUnits r + inUnits (t .0)) (inUnits r + inUnits s) (more (inUnits r) (inUnits (t .0)) (inUnits s) (t .1 .1 .1)))
@@ -66,8 +66,8 @@ one-nearest r s q R S = neither r s (R .value) (S .value) (not-both r s q R S) (
 pub exact-nearest : (y : Float) (q : ℕ) → Candidate y → q ≡ inUnits y * inUnits y → Nearest y q
 exact-nearest y q C e = record {
   value = C;
-  above = λ z D h. strict y (4 * q) (midpoint y z) (lt-of-le-of-lt (native.Mathlib.Nat.le-of-eq four) (square-lt (inUnits y + inUnits y) (inUnits y + inUnits z) (omega arith)));
-  below = λ z D h. strict y (midpoint z y) (4 * q) (lt-of-lt-of-le (square-lt (inUnits z + inUnits y) (inUnits y + inUnits y) (omega arith)) (native.Mathlib.Nat.le-of-eq (sym four)));
+  above = λ z D h. strict y (4 * q) (squareOfSum y z) (lt-of-le-of-lt (native.Mathlib.Nat.le-of-eq four) (square-lt (inUnits y + inUnits y) (inUnits y + inUnits z) (omega arith)));
+  below = λ z D h. strict y (squareOfSum z y) (4 * q) (lt-of-lt-of-le (square-lt (inUnits z + inUnits y) (inUnits y + inUnits y) (omega arith)) (native.Mathlib.Nat.le-of-eq (sym four)));
 }
   where
     four : 4 * q ≡ (inUnits y + inUnits y) * (inUnits y + inUnits y)

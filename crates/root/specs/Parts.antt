@@ -9,7 +9,7 @@ use native.Mathlib.Omega.{arith}
 use lib.Pow.{pow-pos, pow-add, pow-mono}
 use lib.Ieee.{Float, size, odd}
 use lib.Ieee.Digits.{size-lt, size-le}
-use Rattle.root.specs.Root.{rootOfUnits}
+use Rattle.root.specs.Root.{halfUp, rootOfUnits}
 use Rattle.root.specs.Whole.{IsRoot, wholeRoot, side-lt, whole-root}
 
 -- the number of 107 or 108 digits whose root has 54
@@ -18,8 +18,8 @@ scaled p c = c * 2 ^ (55 - p % 2)
 
 -- half of that root, rounded up
 unfoldable pub half : ℕ → ℕ → ℕ
-unfolding scaled wholeRoot
-half p c = suc (wholeRoot 54 (scaled p c)) / 2
+unfolding scaled wholeRoot halfUp
+half p c = halfUp (wholeRoot 54 (scaled p c))
 
 unfoldable pub fromParts : ℕ → ℕ → Float
 unfolding half odd
@@ -76,8 +76,8 @@ scaled-whole n p c P =
 pub root-parts : (n p c : ℕ) → Parts n p c → rootOfUnits n ≡ fromParts p c
 unfolding rootOfUnits fromParts half
 root-parts n p c P =
-    ap (λ (z : ℕ). odd 53 false (suc (wholeRoot 54 (n * 4 ^ 54 / 4 ^ (suc z / 2))) / 2) (suc z / 2 + 484) 1074) (size-parts n p c P)
-    ∙ ap (λ (x : ℕ). odd 53 false (suc (wholeRoot 54 x) / 2) (suc p / 2 + 484) 1074)
+    ap (λ (z : ℕ). odd 53 false (halfUp (wholeRoot 54 (n * 4 ^ 54 / 4 ^ (suc z / 2)))) (suc z / 2 + 484) 1074) (size-parts n p c P)
+    ∙ ap (λ (x : ℕ). odd 53 false (halfUp (wholeRoot 54 x)) (suc p / 2 + 484) 1074)
     (ap (λ (x : ℕ). x / 4 ^ (suc p / 2)) (scaled-whole n p c P) ∙ mul-div-cancel (scaled p c) (subst (λ (x : ℕ). 0 < x) (sym (four-pow (suc p / 2))) (pow-pos (2 * (suc p / 2)))))
 
 -- ---- how large it is
@@ -131,10 +131,12 @@ sized-root N S = rooted (wholeRoot 54 N) (whole-root 54 N (below-four (S .high))
       high = next w (side-lt w (2 ^ 54 - 1) (lt-of-le-of-lt (R .low) (below-square (S .high))));
     }
 
-pub half-low : (w : ℕ) → 2 ^ 53 ≤ w → 2 ^ 52 ≤ suc w / 2
+pub half-low : (w : ℕ) → 2 ^ 53 ≤ w → 2 ^ 52 ≤ halfUp w
+unfolding halfUp
 half-low w h = omega arith
 
-pub half-high : (w : ℕ) → suc w < 2 ^ 54 → suc w / 2 < 2 ^ 53
+pub half-high : (w : ℕ) → suc w < 2 ^ 54 → halfUp w < 2 ^ 53
+unfolding halfUp
 half-high w h = omega arith
 
 -- for the parts of any number

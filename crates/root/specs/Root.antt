@@ -14,15 +14,19 @@ use Rattle.complex.specs.Complex.{zeroF, oneF}
 use Rattle.root.specs.Units.{inUnits, signClear, value-sign}
 use Rattle.root.specs.Whole.{wholeRoot}
 
--- The root of n units of 2 ^ -1074, for n above 0. The root of the number n has h binary digits, where h is half of n's digits, rounded up.
+-- half of w, rounded up
+unfoldable pub halfUp : ℕ → ℕ
+halfUp w = suc w / 2
+
+-- The root of n units of 2 ^ -1074, for n above 0. The root of the number n has h binary digits, where h is half of n's count of digits, rounded up.
 -- So the whole root of n * 4 ^ (54 - h) has 54 digits, w, and half of w, rounded up, has 53: the result's significand.
--- The root of a unit is 2 ^ -537, so the last digit of w / 2 weighs 2 ^ (h - 53 - 537), which is 2 ^ (h + 484) units.
+-- The root of a unit is 2 ^ -537, so the significand's last digit weighs 2 ^ (h - 53 - 537), which is 2 ^ (h + 484) units.
 unfoldable pub rootOfUnits : ℕ → Float
-unfolding wholeRoot size odd
+unfolding halfUp wholeRoot size odd
 rootOfUnits n =
     let h = suc (size n) / 2 in
     let w = wholeRoot 54 (n * 4 ^ 54 / 4 ^ h) in
-    odd 53 false (suc w / 2) (h + 484) 1074
+    odd 53 false (halfUp w) (h + 484) 1074
 
 -- A zero is its own root, with its sign, and so is the infinity. Nothing else below zero has a root.
 unfoldable pub rootOf : Float → Float
@@ -90,7 +94,7 @@ root-not-negative (fin true (suc m) e) = tt
 root-not-negative (fin false (suc m) e) =
     let n = inUnits (fin false (suc m) e) in
     let h = suc (size n) / 2 in
-    let q = suc (wholeRoot 54 (n * 4 ^ 54 / 4 ^ h)) / 2 in
+    let q = halfUp (wholeRoot 54 (n * 4 ^ 54 / 4 ^ h)) in
     clear-not-negative (rootOfUnits n) (value-sign (rootOfUnits n) (q * 2 ^ (h + 484)) (2 ^ 1074) (odd-sign 53 false q (h + 484) 1074))
 
 -- 1, by its value and as a program writes 1.0

@@ -17,8 +17,8 @@ use lib.Ieee.Exact.{HasValue, odd-sign}
 use lib.Ieee.Positive.{positive, value-pos}
 use Rattle.root.specs.Units.{inUnits, Short, units-short, units-exact, units-of-value, units-below, positive-sign, value-sign}
 use Rattle.root.specs.Whole.{wholeRoot}
-use Rattle.root.specs.Root.{rootOf, root-units}
-use Rattle.root.specs.Nearest.{Candidate, midpoint}
+use Rattle.root.specs.Root.{halfUp, rootOf, root-units}
+use Rattle.root.specs.Nearest.{Candidate, squareOfSum}
 use Rattle.root.specs.NearestLaws.{square-lt}
 use Rattle.root.specs.Parts.{Parts, Sized, Rooted, scaled, half, fromParts, root-parts, scaled-whole, scaled-sized, parts-root, half-digits, half-low, four-pow, size-parts}
 
@@ -35,7 +35,7 @@ module _ (N w g m j : ℕ) (S : Sized N) (R : Rooted N w) (few : m < 2 ^ 53) whe
       small : (y K G : ℕ) → y < 2 ^ 53 * K → K + K ≤ G → y < 2 ^ 52 * G
       small y K G h k = omega arith
 
-  module _ (q : ℕ) (Q : q ≡ suc w / 2) where
+  module _ (q : ℕ) (Q : q ≡ halfUp w) where
     q-low : 2 ^ 52 ≤ q
     q-low = subst (λ (x : ℕ). 2 ^ 52 ≤ x) (sym Q) (half-low w (R .low))
 
@@ -64,6 +64,7 @@ module _ (N w g m j : ℕ) (S : Sized N) (R : Rooted N w) (few : m < 2 ^ 53) whe
 
     -- the sum of q * G and y is at least (w + 1) * G, whose square is above N * (G * G)
     strict-above : q * 2 ^ g < m * 2 ^ j → N * (2 ^ g * 2 ^ g) < (q * 2 ^ g + m * 2 ^ j) * (q * 2 ^ g + m * 2 ^ j)
+    unfolding halfUp
     strict-above h =
         let G = 2 ^ g in
         let t : suc w ≤ q + suc q = omega arith in
@@ -72,6 +73,7 @@ module _ (N w g m j : ℕ) (S : Sized N) (R : Rooted N w) (few : m < 2 ^ 53) whe
 
     -- w is twice q, or one less
     which : (w ≡ q + q) ⊎ ((suc w ≡ q + q) × (w % 2 ≡ 1))
+    unfolding halfUp
     which = elim (eq-zero-or-pos (w % 2)) [ inl e ↦ inl (omega arith) | inr e ↦ inr (omega arith) ]
 
     strict-below : m * 2 ^ j < q * 2 ^ g → (m * 2 ^ j + q * 2 ^ g) * (m * 2 ^ j + q * 2 ^ g) < N * (2 ^ g * 2 ^ g)
@@ -193,7 +195,7 @@ module _ (x : Float) (held : T (fits binary64 x)) (above-zero : T (positive x)) 
   square-of = let s = rounded in square-scaled (inUnits x) (scaled (s .p) (s .c)) (suc (s .p) / 2) (scaled-whole (inUnits x) (s .p) (s .c) (s .parts))
 
   module _ (y : Float) (C : Candidate y) where
-    pub root-strict-above : inUnits (rootOf x) < inUnits y → 4 * (inUnits x * 2 ^ 1074) < midpoint (rootOf x) y
+    pub root-strict-above : inUnits (rootOf x) < inUnits y → 4 * (inUnits x * 2 ^ 1074) < squareOfSum (rootOf x) y
     unfolding half
     root-strict-above h =
         let s = rounded in
@@ -203,7 +205,7 @@ module _ (x : Float) (held : T (fits binary64 x)) (above-zero : T (positive x)) 
         (strict-above N (wholeRoot 54 N) (suc (s .p) / 2 + 484) (k .m) (k .j) (scaled-sized (s .p) (s .c) (s .parts .low) (s .parts .high)) (parts-root (s .p) (s .c) (s .parts .low) (s .parts .high)) (k .few) (half (s .p) (s .c)) refl
         (rw (root-in-units, k .is) at h))
 
-    pub root-strict-below : inUnits y < inUnits (rootOf x) → midpoint y (rootOf x) < 4 * (inUnits x * 2 ^ 1074)
+    pub root-strict-below : inUnits y < inUnits (rootOf x) → squareOfSum y (rootOf x) < 4 * (inUnits x * 2 ^ 1074)
     unfolding half
     root-strict-below h =
         let s = rounded in

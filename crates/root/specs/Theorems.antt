@@ -9,7 +9,7 @@ use lib.Ieee.Fits.{nan-fits, inf-fits}
 use lib.Ieee.Positive.{positive}
 use Rattle.root.specs.Units.{inUnits}
 use Rattle.root.specs.Root.{rootOf}
-use Rattle.root.specs.Nearest.{Candidate, Nearest, midpoint}
+use Rattle.root.specs.Nearest.{Candidate, Nearest, squareOfSum}
 use Rattle.root.specs.NearestLaws.{neither, strict, one-nearest, exact-nearest, nearest-grows}
 use Rattle.root.specs.Rounding.{root-candidate, root-strict-above, root-strict-below}
 
@@ -21,15 +21,15 @@ only-nearest = one-nearest
 pub root-nearest : (x : Float) → T (fits binary64 x) → T (positive x) → Nearest (rootOf x) (inUnits x * 2 ^ 1074)
 root-nearest x h p = record {
   value = root-candidate x h p;
-  above = λ y C l. strict (rootOf x) (4 * (inUnits x * 2 ^ 1074)) (midpoint (rootOf x) y) (root-strict-above x h p y C l);
-  below = λ y C l. strict (rootOf x) (midpoint y (rootOf x)) (4 * (inUnits x * 2 ^ 1074)) (root-strict-below x h p y C l);
+  above = λ y C l. strict (rootOf x) (4 * (inUnits x * 2 ^ 1074)) (squareOfSum (rootOf x) y) (root-strict-above x h p y C l);
+  below = λ y C l. strict (rootOf x) (squareOfSum y (rootOf x)) (4 * (inUnits x * 2 ^ 1074)) (root-strict-below x h p y C l);
 }
 
--- it is at no midpoint, so the rule for ties is never asked
-pub root-no-tie : (x y : Float) → T (fits binary64 x) → T (positive x) → Candidate y → 4 * (inUnits x * 2 ^ 1074) ≡ midpoint (rootOf x) y → y ≡ rootOf x
+-- the root lies at no midpoint but where it is exact, so the rule for ties is never asked
+pub root-no-tie : (x y : Float) → T (fits binary64 x) → T (positive x) → Candidate y → 4 * (inUnits x * 2 ^ 1074) ≡ squareOfSum (rootOf x) y → y ≡ rootOf x
 root-no-tie x y h p C e = neither y (rootOf x) C (root-candidate x h p)
-    (λ l. lt-irrefl (midpoint y (rootOf x)) (subst (λ (z : ℕ). midpoint y (rootOf x) < z) (e ∙ ap (λ (z : ℕ). z * z) (add-comm (inUnits (rootOf x)) (inUnits y))) (root-strict-below x h p y C l)))
-    (λ l. lt-irrefl (midpoint (rootOf x) y) (subst (λ (z : ℕ). z < midpoint (rootOf x) y) e (root-strict-above x h p y C l)))
+    (λ l. lt-irrefl (squareOfSum y (rootOf x)) (subst (λ (z : ℕ). squareOfSum y (rootOf x) < z) (e ∙ ap (λ (z : ℕ). z * z) (add-comm (inUnits (rootOf x)) (inUnits y))) (root-strict-below x h p y C l)))
+    (λ l. lt-irrefl (squareOfSum (rootOf x) y) (subst (λ (z : ℕ). z < squareOfSum (rootOf x) y) e (root-strict-above x h p y C l)))
 
 -- ---- what follows
 

@@ -1,0 +1,119 @@
+/* Compares jondwave_root with the machine's sqrt, and jondwave_norm with sqrt(re * re + im * im), bit by bit.
+   All NaNs count as one. Usage: root_compare COUNT SEED. Compile with -O2 -ffp-contract=off. */
+#include <inttypes.h>
+#include <math.h>
+#include <stdint.h>
+#include <stdio.h>
+#include <stdlib.h>
+#include <string.h>
+
+extern double jondwave_root(double x);
+extern double jondwave_norm(double re, double im);
+
+#define DIGITS ((UINT64_C(1) << 52) - 1)
+#define INFINITY_BITS (UINT64_C(0x7ff) << 52)
+#define SIGN (UINT64_C(1) << 63)
+
+static uint64_t limit, patterns, pairs, differences, state;
+
+/* splitmix64 */
+static uint64_t next(void) {
+    uint64_t z = (state += UINT64_C(0x9e3779b97f4a7c15));
+    z = (z ^ (z >> 30)) * UINT64_C(0xbf58476d1ce4e5b9);
+    z = (z ^ (z >> 27)) * UINT64_C(0x94d049bb133111eb);
+    return z ^ (z >> 31);
+}
+
+static double value(uint64_t bits) {
+    double x;
+    memcpy(&x, &bits, sizeof x);
+    return x;
+}
+
+static uint64_t pattern(double x) {
+    uint64_t bits;
+    if (x != x) return INFINITY_BITS | 1;
+    memcpy(&bits, &x, sizeof bits);
+    return bits;
+}
+
+static void report(const char *what, uint64_t a, uint64_t b, double got, double want) {
+    if (differences++ < 10)
+        printf("%s %016" PRIx64 " %016" PRIx64 ": %016" PRIx64 ", expected %016" PRIx64 "\n", what, a, b, pattern(got), pattern(want));
+}
+
+static void root_of(uint64_t bits) {
+    if (patterns >= limit) return;
+    patterns++;
+    double x = value(bits), got = jondwave_root(x), want = sqrt(x);
+    if (pattern(got) != pattern(want)) report("root", bits, 0, got, want);
+}
+
+/* a pattern and those within d of it */
+static void around(uint64_t bits, uint64_t d) {
+    for (uint64_t k = bits - d; k != bits + d + 1; k++) root_of(k);
+}
+
+static void norm_of(uint64_t a, uint64_t b) {
+    pairs++;
+    double re = value(a), im = value(b), got = jondwave_norm(re, im), want = sqrt(re * re + im * im);
+    if (pattern(got) != pattern(want)) report("norm", a, b, got, want);
+}
+
+/* a random pattern whose exponent is near 0, so that most sums of squares are neither 0 nor infinite */
+static uint64_t middling(void) {
+    uint64_t r = next();
+    return (r & SIGN) | ((UINT64_C(1023) - 40 + next() % 80) << 52) | (r & DIGITS);
+}
+
+int main(int argc, char **argv) {
+    if (argc != 3) {
+        fprintf(stderr, "usage: root_compare COUNT SEED\n");
+        return 2;
+    }
+    limit = strtoull(argv[1], NULL, 10);
+    state = strtoull(argv[2], NULL, 10);
+
+    /* zeros, infinities, NaNs */
+    static const uint64_t special[] = {0, INFINITY_BITS, INFINITY_BITS | 1, INFINITY_BITS | DIGITS, INFINITY_BITS | (UINT64_C(1) << 51)};
+    for (size_t k = 0; k < sizeof special / sizeof *special; k++) {
+        root_of(special[k]);
+        root_of(special[k] | SIGN);
+    }
+
+    /* every exponent with significands at the edges, both signs: powers of two and their neighbours among them */
+    static const uint64_t edge[] = {0, 1, 2, DIGITS, DIGITS - 1, UINT64_C(1) << 51, (UINT64_C(1) << 51) - 1, (UINT64_C(1) << 51) + 1};
+    for (uint64_t e = 0; e < 2048; e++)
+        for (size_t k = 0; k < sizeof edge / sizeof *edge; k++) {
+            root_of((e << 52) | edge[k]);
+            root_of(SIGN | (e << 52) | edge[k]);
+        }
+
+    /* subnormal values: each one bit, and its neighbours */
+    for (unsigned k = 1; k < 52; k++) around(UINT64_C(1) << k, 1);
+
+    /* neighbours of exact squares, small ones and random ones of up to 26 digits, at exponents of both parities */
+    for (uint64_t k = 1; k <= 2000; k++) around(pattern((double)(k * k)), 1);
+    for (unsigned n = 0; n < 50000; n++) {
+        uint64_t k = (next() >> 38) | 1;
+        around(pattern(ldexp((double)(k * k), (int)(next() % 1800) - 950)), 1);
+    }
+
+    /* neighbours of squares of midpoints, where the rounding is hardest: (q + 1/2)^2 for q of 53 digits */
+    for (unsigned n = 0; n < 50000; n++) {
+        unsigned __int128 m = 2 * ((unsigned __int128)((next() & DIGITS) | (DIGITS + 1))) + 1, s = m * m;
+        unsigned down = (s >> 107) ? 55 : 54;
+        around(pattern(ldexp((double)(uint64_t)(s >> down), (int)(next() % 1800) - 950)), 1);
+    }
+
+    while (patterns < limit) root_of(next());
+
+    /* sums of two squares: half of the pairs random patterns, half of middling size */
+    for (uint64_t n = 0; n < limit / 8; n++) {
+        norm_of(next(), next());
+        norm_of(middling(), middling());
+    }
+
+    printf("root: %" PRIu64 " patterns, %" PRIu64 " pairs, %" PRIu64 " differences\n", patterns, pairs, differences);
+    return differences != 0;
+}
