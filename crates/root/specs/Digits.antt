@@ -3,9 +3,9 @@
 use mathlib.Core.Path.{_≡_, refl, sym, ap, _∙_, subst}
 use mathlib.Core.Bool.{Bool, true, false, not, cond}
 use Prim.Native.Nat.{ℕ, zero, suc, _+_, _-_, _*_, _/_, _%_, _^_, _≤_, _<_}
-use native.Mathlib.Nat.{le-trans, le-of-eq, mul-one, mul-le-mul-left, le-of-mul-le-mul-right, pow-suc, mod-lt, add-mul}
+use native.Mathlib.Nat.{le-trans, le-of-eq, mul-one, one-mul, mul-le-mul-left, le-of-mul-le-mul-right, pow-suc, mod-lt, add-mul}
 use native.Mathlib.Omega.{arith}
-use lib.Pow.{pow-pos}
+use lib.Pow.{pow-pos, pow-mono}
 use lib.Dec.{T, leb, leb→le, le→leb, nleb→lt}
 use lib.Arith.{lt→nleb}
 use lib.Ieee.Bits.{is-true, is-false}
@@ -95,8 +95,8 @@ digits-root s n h e = subst (λ (x : ℕ). IsRoot x (digitsOf 54 s 0 0)) (nothin
 
 -- ---- the steps of a program that tests k, and the room that they leave
 
-pub room-start : Room 54 0 0
-room-start = record { digits = omega arith; rest = omega arith }
+pub room-start : (k : ℕ) → k ≤ 54 → Room k 0 0
+room-start k h = record { digits = le-trans (le-of-eq (one-mul (2 ^ k))) (pow-mono h); rest = omega arith }
 
 pub room-now : (k r q : ℕ) → Room k r q → q < 2 ^ 54
 room-now k r q R = le-trans (le-trans (le-of-eq (sym (mul-one (suc q)))) (mul-le-mul-left (suc q) (pow-pos k))) (R .digits)

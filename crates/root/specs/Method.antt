@@ -1,6 +1,6 @@
 -- What the function `from_parts` does: `digits` finds the 54 digits of the root of `scaled p c`, and the bit pattern made of them is that of `fromParts p c`. Assumes nothing.
-use mathlib.Core.Path.{_≡_, refl, sym, ap, ap₂, _∙_, subst}
-use mathlib.Core.Bool.{false, not}
+use mathlib.Core.Path.{_≡_, refl, sym, ap, ap₂, _∙_}
+use mathlib.Core.Bool.{false}
 use mathlib.Core.Logic.{inl, inr}
 use Prim.Native.Nat.{ℕ, suc, _+_, _-_, _*_, _/_, _%_, _^_, _≤_, _<_}
 use native.Mathlib.Nat.{mul-assoc, mod-lt}
@@ -8,9 +8,7 @@ use native.Mathlib.Numerals.{add-one}
 use native.Mathlib.Omega.{arith}
 use lib.Arith.{digits-div, digits-mod}
 use lib.Pow.{pow-pos, shl-exact}
-use lib.Dec.{T}
-use lib.Ieee.{binary64, odd, ofFields, ofBits, nanBits}
-use Rattle.root.specs.Units.{pattern-real}
+use lib.Ieee.{binary64, odd, ofFields, ofBits}
 use Rattle.root.specs.Root.{halfUp}
 use Rattle.root.specs.Whole.{wholeRoot, only-root}
 use Rattle.root.specs.Digits.{digitsOf, digits-root}
@@ -51,12 +49,6 @@ module _ (p c : ℕ) (P : p ≤ 2098) (L : 2 ^ 52 ≤ c) (H : c < 2 ^ 53) (w : �
       let s = c * 2 ^ (11 - p % 2) % 2 ^ 64 in
       W ∙ only-root (scaled p c) (digitsOf 54 s 0 0) (wholeRoot 54 (scaled p c)) (digits-root s (scaled p c) (mod-lt (c * 2 ^ (11 - p % 2)) (pow-pos 64)) (word-digits p c H)) (parts-root p c L H .is)
 
-  pub digits-few : w < 2 ^ 54
-  digits-few = subst (λ (x : ℕ). x < 2 ^ 54) (sym digits-found) (less (wholeRoot 54 (scaled p c)) (parts-root p c L H .high))
-    where
-      less : (x : ℕ) → suc x < 2 ^ 54 → x < 2 ^ 54
-      less x h = omega arith
-
   field-lt : suc (suc p / 2 + 484) < 2047
   field-lt = omega arith
 
@@ -64,9 +56,6 @@ module _ (p c : ℕ) (P : p ≤ 2098) (L : 2 ^ 52 ≤ c) (H : c < 2 ^ 53) (w : �
   same-pattern : ((p + 1) / 2 + 484) * 2 ^ 52 + (w + 1) / 2 ≡ (suc p / 2 + 484) * 2 ^ 52 + half p c
   unfolding half halfUp
   same-pattern = ap₂ (λ (x y : ℕ). (x / 2 + 484) * 2 ^ 52 + y / 2) (add-one p) (add-one w ∙ ap suc digits-found)
-
-  pub pattern-no-nan : T (not (nanBits binary64 (((p + 1) / 2 + 484) * 2 ^ 52 + (w + 1) / 2)))
-  pattern-no-nan = pattern-real (((p + 1) / 2 + 484) * 2 ^ 52 + (w + 1) / 2) (omega (arith, digits-few))
 
   pub pattern-of : ofBits binary64 (((p + 1) / 2 + 484) * 2 ^ 52 + (w + 1) / 2) ≡ fromParts p c
   unfolding fromParts

@@ -139,6 +139,11 @@ pub half-high : (w : ℕ) → suc w < 2 ^ 54 → halfUp w < 2 ^ 53
 unfolding halfUp
 half-high w h = omega arith
 
+-- w is twice the half, or it is odd and one less
+pub half-cases : (w : ℕ) → (w ≡ halfUp w + halfUp w) ⊎ ((suc w ≡ halfUp w + halfUp w) × (w % 2 ≡ 1))
+unfolding halfUp
+half-cases w = elim (parity w) [ inl e ↦ inl (omega arith) | inr e ↦ inr (omega arith) ]
+
 -- for the parts of any number
 module _ (p c : ℕ) (low : 2 ^ 52 ≤ c) (high : c < 2 ^ 53) where
   pub parts-root : Rooted (scaled p c) (wholeRoot 54 (scaled p c))

@@ -1,17 +1,15 @@
 -- The square root of binary64 (IEEE 754-2019, 5.4.1, squareRoot): the definition that the contracts cite, and its special values.
 -- That it is the value of the format nearest to the exact root, and never a tie, is `root-nearest` and `root-no-tie` of `Theorems.antt`. Assumes nothing.
 use mathlib.Core.Path.{_≡_, refl}
-use mathlib.Core.Bool.{Bool, true, false, not}
-use Prim.Native.Nat.{ℕ, zero, suc, _+_, _*_, _/_, _^_, _≤_, _<_}
+use mathlib.Core.Bool.{Bool, true, false}
+use Prim.Native.Nat.{ℕ, zero, suc, _+_, _*_, _/_, _^_, _<_}
 use native.Mathlib.Omega.{arith}
 use lib.Dec.{T, ltb→lt}
-use lib.Arith.{le→nltb}
 use lib.IntN.{pos}
 use lib.Ieee.{Float, nan, inf, fin, up, down, size, odd, lt, ofBits}
-use lib.Ieee.Exact.{odd-sign}
 use lib.Ieee.Positive.{positive}
 use Rattle.complex.specs.Complex.{zeroF, oneF}
-use Rattle.root.specs.Units.{inUnits, signClear, value-sign}
+use Rattle.root.specs.Units.{inUnits}
 use Rattle.root.specs.Whole.{wholeRoot}
 
 -- half of w, rounded up
@@ -67,35 +65,6 @@ root-negative (fin false m e) h = absurd (none (m * up e * 1) (down e) (ltb→lt
     none : (a d : ℕ) → a < 0 * d → ⊥
     none a d l = omega arith
 root-negative (fin true (suc m) e) h = refl
-
--- no root is below zero
-clear-not-negative : (v : Float) → T (signClear v) → T (not (lt v zeroF))
-unfolding lt ofBits
-clear-not-negative nan p = tt
-clear-not-negative (inf true) p = absurd p
-clear-not-negative (inf false) p = tt
-clear-not-negative (fin true m e) p = absurd p
-clear-not-negative (fin false m e) p = le→nltb (m * up e * 1) (0 * down e) (least (m * up e * 1) (down e))
-  where
-    least : (a d : ℕ) → 0 * d ≤ a
-    least a d = omega arith
-
-pub root-not-negative : (x : Float) → T (not (lt (rootOf x) zeroF))
-unfolding rootOf rootOfUnits lt ofBits
-root-not-negative nan = tt
-root-not-negative (inf true) = tt
-root-not-negative (inf false) = tt
-root-not-negative (fin true zero e) = le→nltb 0 (0 * up e * 1 + 0 * down e) (none (up e) (down e))
-  where
-    none : (u d : ℕ) → 0 * u * 1 + 0 * d ≤ 0
-    none u d = omega arith
-root-not-negative (fin false zero e) = clear-not-negative (fin false zero e) tt
-root-not-negative (fin true (suc m) e) = tt
-root-not-negative (fin false (suc m) e) =
-    let n = inUnits (fin false (suc m) e) in
-    let h = suc (size n) / 2 in
-    let q = halfUp (wholeRoot 54 (n * 4 ^ 54 / 4 ^ h)) in
-    clear-not-negative (rootOfUnits n) (value-sign (rootOfUnits n) (q * 2 ^ (h + 484)) (2 ^ 1074) (odd-sign 53 false q (h + 484) 1074))
 
 -- 1, by its value and as a program writes 1.0
 pub root-one : rootOf (fin false 1 (pos 0)) ≡ fin false 1 (pos 0)

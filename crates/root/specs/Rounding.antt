@@ -20,7 +20,7 @@ use Rattle.root.specs.Whole.{wholeRoot}
 use Rattle.root.specs.Root.{halfUp, rootOf, root-units}
 use Rattle.root.specs.Nearest.{Candidate, squareOfSum}
 use Rattle.root.specs.NearestLaws.{square-lt}
-use Rattle.root.specs.Parts.{Parts, Sized, Rooted, scaled, half, fromParts, root-parts, scaled-whole, scaled-sized, parts-root, half-digits, half-low, four-pow, size-parts}
+use Rattle.root.specs.Parts.{Parts, Sized, Rooted, scaled, half, fromParts, root-parts, scaled-whole, scaled-sized, parts-root, half-digits, half-low, half-cases, four-pow, size-parts}
 
 -- ---- over whole numbers: y is m * 2 ^ j, with no more digits than q
 
@@ -38,6 +38,9 @@ module _ (N w g m j : ℕ) (S : Sized N) (R : Rooted N w) (few : m < 2 ^ 53) whe
   module _ (q : ℕ) (Q : q ≡ halfUp w) where
     q-low : 2 ^ 52 ≤ q
     q-low = subst (λ (x : ℕ). 2 ^ 52 ≤ x) (sym Q) (half-low w (R .low))
+
+    which : (w ≡ q + q) ⊎ ((suc w ≡ q + q) × (w % 2 ≡ 1))
+    which = rw Q (half-cases w)
 
     -- above q * G the next is (q + 1) * G
     next-above : q * 2 ^ g < m * 2 ^ j → suc q * 2 ^ g ≤ m * 2 ^ j
@@ -64,17 +67,11 @@ module _ (N w g m j : ℕ) (S : Sized N) (R : Rooted N w) (few : m < 2 ^ 53) whe
 
     -- the sum of q * G and y is at least (w + 1) * G, whose square is above N * (G * G)
     strict-above : q * 2 ^ g < m * 2 ^ j → N * (2 ^ g * 2 ^ g) < (q * 2 ^ g + m * 2 ^ j) * (q * 2 ^ g + m * 2 ^ j)
-    unfolding halfUp
     strict-above h =
         let G = 2 ^ g in
-        let t : suc w ≤ q + suc q = omega arith in
+        let t : suc w ≤ q + suc q = elim which [ inl e ↦ omega arith | inr e ↦ omega arith ] in
         let s : suc w * G ≤ q * G + m * 2 ^ j = le-trans (mul-le-mul-right G t) (le-trans (le-of-eq (add-mul q (suc q) G)) (add-le-add (le-refl (q * G)) (next-above h))) in
         lt-of-lt-of-le (mul-lt-mul-of-pos-right (R .is .high) weight-pos) (le-trans (le-of-eq (sym (square (suc w) G))) (mul-le-mul s s))
-
-    -- w is twice q, or one less
-    which : (w ≡ q + q) ⊎ ((suc w ≡ q + q) × (w % 2 ≡ 1))
-    unfolding halfUp
-    which = elim (eq-zero-or-pos (w % 2)) [ inl e ↦ inl (omega arith) | inr e ↦ inr (omega arith) ]
 
     strict-below : m * 2 ^ j < q * 2 ^ g → (m * 2 ^ j + q * 2 ^ g) * (m * 2 ^ j + q * 2 ^ g) < N * (2 ^ g * 2 ^ g)
     strict-below h = elim which [

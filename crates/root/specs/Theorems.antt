@@ -1,13 +1,16 @@
 -- What is proved of the root. `root-nearest` and `only-nearest` together say which value `rootOf x` is: the one that IEEE 754-2019 asks for (`Nearest.antt`). Assumes nothing.
 use mathlib.Core.Path.{_≡_, ap, _∙_, subst}
-use mathlib.Core.Bool.{true, false}
-use Prim.Native.Nat.{ℕ, zero, suc, _*_, _^_, _≤_, _<_}
+use mathlib.Core.Bool.{true, false, not}
+use Prim.Native.Nat.{ℕ, zero, suc, _+_, _*_, _^_, _≤_, _<_}
 use native.Mathlib.Nat.{lt-irrefl, zero-lt-suc, add-comm, mul-le-mul-right}
+use native.Mathlib.Omega.{arith}
+use lib.Arith.{le→nltb}
 use lib.Dec.{T, lt→ltb}
-use lib.Ieee.{Float, nan, inf, fin, binary64, fits}
+use lib.Ieee.{Float, nan, inf, fin, binary64, up, down, fits, lt, ofBits}
 use lib.Ieee.Fits.{nan-fits, inf-fits}
 use lib.Ieee.Positive.{positive}
-use Rattle.root.specs.Units.{inUnits}
+use Rattle.complex.specs.Complex.{zeroF}
+use Rattle.root.specs.Units.{inUnits, clear-not-negative}
 use Rattle.root.specs.Root.{rootOf}
 use Rattle.root.specs.Nearest.{Candidate, Nearest, squareOfSum}
 use Rattle.root.specs.NearestLaws.{neither, strict, one-nearest, exact-nearest, nearest-grows}
@@ -42,6 +45,20 @@ root-fits (inf false) h = inf-fits binary64 false
 root-fits (fin s zero e) h = h
 root-fits (fin true (suc m) e) h = nan-fits binary64
 root-fits (fin false (suc m) e) h = root-candidate (fin false (suc m) e) h (lt→ltb 0 (suc m) (zero-lt-suc m)) .held
+
+-- no root is below zero; the root of -0 is -0, which is not
+pub root-not-negative : (x : Float) → T (fits binary64 x) → T (not (lt (rootOf x) zeroF))
+unfolding rootOf lt ofBits
+root-not-negative nan h = tt
+root-not-negative (inf true) h = tt
+root-not-negative (inf false) h = tt
+root-not-negative (fin true zero e) h = le→nltb 0 (0 * up e * 1 + 0 * down e) (none (up e) (down e))
+  where
+    none : (u d : ℕ) → 0 * u * 1 + 0 * d ≤ 0
+    none u d = omega arith
+root-not-negative (fin false zero e) h = clear-not-negative (fin false zero e) tt
+root-not-negative (fin true (suc m) e) h = tt
+root-not-negative (fin false (suc m) e) h = clear-not-negative (rootOf (fin false (suc m) e)) (root-candidate (fin false (suc m) e) h (lt→ltb 0 (suc m) (zero-lt-suc m)) .sign)
 
 -- the root of y * y is y, where y * y is exact
 pub root-of-square : (x y : Float) → T (fits binary64 x) → T (positive x) → Candidate y → inUnits x * 2 ^ 1074 ≡ inUnits y * inUnits y → rootOf x ≡ y

@@ -10,12 +10,13 @@ use lib.Arith.{lt-of-le-ne, le→nltb}
 use lib.IntN.{ℤ, pos, negsuc}
 use lib.Dec.{T, leb, ltb, eqb, leb→le, ltb→lt, lit<}
 use lib.Pow.{pow-pos, pow-add, pow-lt, shr-mono}
-use lib.Ieee.{Float, nan, inf, fin, binary64, up, down, size, fits, toBits, ofBits, isNan, nanBits}
+use lib.Ieee.{Float, nan, inf, fin, binary64, up, down, size, fits, toBits, ofBits, isNan, nanBits, lt}
 use lib.Ieee.Digits.{back, size-lt, size-le, size-reaches}
 use lib.Ieee.Fits.{and-l, and-r, down-pos, kept-lt, inf-fits}
 use lib.Ieee.Bits.{ofBits-toBits, ofBits-fits, toBits-ofBits, nanBits-is, nanBits-above}
 use lib.Ieee.Exact.{HasValue}
 use lib.Ieee.Positive.{positive}
+use Rattle.complex.specs.Complex.{zeroF}
 
 -- How many units a value is, its sign aside. An infinity counts as 2 ^ 1024, which is 2 ^ 2098 units: the number that would follow the largest finite value if the exponents went on.
 unfoldable pub inUnits : Float → ℕ
@@ -78,6 +79,38 @@ units-of-value nan n h = absurd h
 units-of-value (inf s) n h = absurd h
 units-of-value (fin s m e) n h = ap (λ (x : ℕ). x / down e) (h .1) ∙ mul-div-cancel n (down-pos e)
 
+-- ---- The bit pattern of a value with the sign clear, by its units: the first 53 digits are kept and k are dropped. Infinity's pattern is the one that 2 ^ 2098 units have.
+
+pattern : ℕ → ℕ
+pattern n = (size n - 53) * 2 ^ 52 + n / 2 ^ (size n - 53)
+
+bits-pattern : (v : Float) → T (signClear v) → toBits binary64 v ≡ pattern (inUnits v)
+unfolding toBits inUnits pattern
+bits-pattern nan p = absurd p
+bits-pattern (inf true) p = absurd p
+bits-pattern (inf false) p = refl
+bits-pattern (fin true m e) p = absurd p
+bits-pattern (fin false m e) p = simp zero-add
+
+-- where digits are dropped, 53 are kept
+kept-ge : (n : ℕ) → 0 < size n - 53 → 2 ^ 52 ≤ n / 2 ^ (size n - 53)
+kept-ge n h =
+    let k = size n - 53 in
+    le-div-iff-mul-le (pow-pos k) .1 (le-trans (le-of-eq (sym (pow-add 2 52 k))) (size-reaches n (52 + k) (omega arith)))
+
+pattern-mono : (a b : ℕ) → a ≤ b → pattern a ≤ pattern b
+unfolding pattern
+pattern-mono a b h = elim (eq-or-lt-of-le (fewer (size a) (size b) (size-le a (size b) (lt-of-le-of-lt h (size-lt b))))) [
+  | inl e ↦ subst (λ (j : ℕ). j * 2 ^ 52 + a / 2 ^ j ≤ (size b - 53) * 2 ^ 52 + b / 2 ^ (size b - 53)) (sym e) (omega (arith, shr-mono (size b - 53) h))
+  | inr l ↦ carried (size a - 53) (size b - 53) (a / 2 ^ (size a - 53)) (b / 2 ^ (size b - 53)) l (kept-lt 53 a) (kept-ge b (lt-of-le-of-lt Prim.Native.Nat.zero-le l))
+]
+  where
+    fewer : (x y : ℕ) → x ≤ y → x - 53 ≤ y - 53
+    fewer x y h = omega arith
+
+    carried : (j k x y : ℕ) → j < k → x < 2 ^ 53 → 2 ^ 52 ≤ y → j * 2 ^ 52 + x ≤ k * 2 ^ 52 + y
+    carried j k x y h l g = omega arith
+
 -- ---- which values have the sign clear
 
 pub positive-sign : (x : Float) → T (positive x) → T (signClear x)
@@ -91,6 +124,18 @@ value-sign nan a c h = absurd h
 value-sign (inf s) a c h = absurd h
 value-sign (fin true m e) a c h = absurd (true≢false (h .0))
 value-sign (fin false m e) a c h = tt
+
+-- they are not below zero
+pub clear-not-negative : (v : Float) → T (signClear v) → T (not (lt v zeroF))
+unfolding lt ofBits
+clear-not-negative nan p = tt
+clear-not-negative (inf true) p = absurd p
+clear-not-negative (inf false) p = tt
+clear-not-negative (fin true m e) p = absurd p
+clear-not-negative (fin false m e) p = le→nltb (m * up e * 1) (0 * down e) (least (m * up e * 1) (down e))
+  where
+    least : (a d : ℕ) → 0 * d ≤ a
+    least a d = omega arith
 
 -- ---- the units are 53 binary digits, and then zeros
 
@@ -125,39 +170,7 @@ units-below s (suc m) e h =
     (lt-of-le-of-lt (le-of-eq (sym (H .is)))
     (lt-of-lt-of-le (mul-lt-mul-of-pos-right k (pow-pos 1074)) (le-of-eq (mul-right-comm (2 ^ 1024) (down e) (2 ^ 1074))))))
 
--- ---- The bit pattern of a value with the sign clear, by its units: the first 53 digits are kept and k are dropped. Infinity's pattern is the one that 2 ^ 2098 units have.
-
-pattern : ℕ → ℕ
-pattern n = (size n - 53) * 2 ^ 52 + n / 2 ^ (size n - 53)
-
-bits-pattern : (v : Float) → T (signClear v) → toBits binary64 v ≡ pattern (inUnits v)
-unfolding toBits inUnits pattern
-bits-pattern nan p = absurd p
-bits-pattern (inf true) p = absurd p
-bits-pattern (inf false) p = refl
-bits-pattern (fin true m e) p = absurd p
-bits-pattern (fin false m e) p = simp zero-add
-
--- where digits are dropped, 53 are kept
-kept-ge : (n : ℕ) → 0 < size n - 53 → 2 ^ 52 ≤ n / 2 ^ (size n - 53)
-kept-ge n h =
-    let k = size n - 53 in
-    le-div-iff-mul-le (pow-pos k) .1 (le-trans (le-of-eq (sym (pow-add 2 52 k))) (size-reaches n (52 + k) (omega arith)))
-
-pattern-mono : (a b : ℕ) → a ≤ b → pattern a ≤ pattern b
-unfolding pattern
-pattern-mono a b h = elim (eq-or-lt-of-le (fewer (size a) (size b) (size-le a (size b) (lt-of-le-of-lt h (size-lt b))))) [
-  | inl e ↦ subst (λ (j : ℕ). j * 2 ^ 52 + a / 2 ^ j ≤ (size b - 53) * 2 ^ 52 + b / 2 ^ (size b - 53)) (sym e) (omega (arith, shr-mono (size b - 53) h))
-  | inr l ↦ carried (size a - 53) (size b - 53) (a / 2 ^ (size a - 53)) (b / 2 ^ (size b - 53)) l (kept-lt 53 a) (kept-ge b (lt-of-le-of-lt Prim.Native.Nat.zero-le l))
-]
-  where
-    fewer : (x y : ℕ) → x ≤ y → x - 53 ≤ y - 53
-    fewer x y h = omega arith
-
-    carried : (j k x y : ℕ) → j < k → x < 2 ^ 53 → 2 ^ 52 ≤ y → j * 2 ^ 52 + x ≤ k * 2 ^ 52 + y
-    carried j k x y h l g = omega arith
-
--- ---- so two values with the sign clear that are as many units are one, and of two that are not, the one of more units has the larger pattern
+-- ---- two values with the sign clear that are as many units are one, and of two that are not, the one of more units has the larger pattern
 
 module _ (x y : Float) (fx : T (fits binary64 x)) (fy : T (fits binary64 y)) (px : T (signClear x)) (py : T (signClear y)) where
   same-bits : toBits binary64 x ≡ toBits binary64 y → x ≡ y

@@ -15,6 +15,7 @@ ghost use Rattle.root.specs.Parts.{fromParts};
 fn digits(k: u64, s: u64, r: u64, q: u64) -> u64
     requires { ⌜ Room k r q ⌝ }
     ensures { λ w. ⌜ w ≡ digitsOf k s r q ⌝ }
+    ensures { λ w. ⌜ w < 2 ^ 54 ⌝ }
 {
     if k == 0 {
         return q;

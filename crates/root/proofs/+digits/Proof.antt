@@ -26,7 +26,7 @@ falls-one k h = omega arith
 
 digits-returns :
     (t : ℕ) → digits-lts.Need-returns (digits-below t, digits.Post) (digits-at t) digits.Post
-digits-returns t c = let a = c .before .args in sym (subst (λ (k : ℕ). digitsOf k (a .s) (a .r) (a .q) ≡ a .q) (sym (c .if1 .taken)) (digits-none (a .s) (a .r) (a .q)))
+digits-returns t c = let a = c .before .args in (sym (subst (λ (k : ℕ). digitsOf k (a .s) (a .r) (a .q) ≡ a .q) (sym (c .if1 .taken)) (digits-none (a .s) (a .r) (a .q))), room-now (a .k) (a .r) (a .q) (c .before .pre .1))
 
 digits-mul-t :
     (t : ℕ) → digits-lts.Need-mul-t (digits-below t, digits.Post) (digits-at t) digits.Post
@@ -77,11 +77,11 @@ digits-digits-requires-2 t c κs = let a = c .before .before .args in (subst (λ
 
 digits-returns-2 :
     (t : ℕ) → digits-lts.Need-returns-2 (digits-below t, digits.Post) (digits-at t) digits.Post
-digits-returns-2 t c = let a = c .before .before .before .args in c .digits .ensures ∙ sym (digit-zero (a .k) (a .s) (a .r) (a .q) (c .before .before .if1 .left) (c .before .if2 .taken))
+digits-returns-2 t c = let a = c .before .before .before .args in (c .digits .ensures .0 ∙ sym (digit-zero (a .k) (a .s) (a .r) (a .q) (c .before .before .if1 .left) (c .before .if2 .taken)), c .digits .ensures .1)
 
 digits-returns-3 :
     (t : ℕ) → digits-lts.Need-returns-3 (digits-below t, digits.Post) (digits-at t) digits.Post
-digits-returns-3 t c = let a = c .before .before .before .args in c .digits2 .ensures ∙ sym (digit-one (a .k) (a .s) (a .r) (a .q) (c .before .before .if1 .left) (c .before .if2 .left))
+digits-returns-3 t c = let a = c .before .before .before .args in (c .digits2 .ensures .0 ∙ sym (digit-one (a .k) (a .s) (a .r) (a .q) (c .before .before .if1 .left) (c .before .if2 .left)), c .digits2 .ensures .1)
 
 pub +digits-spec : {M : Type 1} → statement M
 +digits-spec =
