@@ -1,6 +1,7 @@
 -- The binary64 value nearest to a square root: IEEE 754-2019, 5.4.1 (squareRoot), rounded as 4.3.1 has it (roundTiesToEven). Definitions only.
 -- The square is exact: q counts 2 ^ -2148, which is the square of the unit 2 ^ -1074, so the root of q is a number of units, most often no whole one.
 -- It lies below the midpoint of r and y units exactly where 4 * q < (r + y) * (r + y), so all is said in whole numbers.
+-- `Theorems.antt` has that one value is nearest (`only-nearest`), and `NearestLaws.antt` that ties and overflow go as 4.3.1 has them (`tie-lower`, `tie-upper`, `overflow`).
 use mathlib.Core.Path.{_≡_}
 use Prim.Native.Nat.{ℕ, _+_, _*_, _%_, _≤_, _<_}
 use lib.Dec.{T}

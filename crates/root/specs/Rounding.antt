@@ -16,10 +16,9 @@ use lib.Ieee.Fits.{odd-fits}
 use lib.Ieee.Exact.{HasValue, odd-sign}
 use lib.Ieee.Positive.{positive, value-pos}
 use Rattle.root.specs.Units.{inUnits, Short, units-short, units-exact, units-of-value, units-below, positive-sign, value-sign}
-use Rattle.root.specs.Whole.{wholeRoot}
+use Rattle.root.specs.Whole.{wholeRoot, square-lt}
 use Rattle.root.specs.Root.{halfUp, rootOf, root-units}
 use Rattle.root.specs.Nearest.{Candidate, squareOfSum}
-use Rattle.root.specs.NearestLaws.{square-lt}
 use Rattle.root.specs.Parts.{Parts, Sized, Rooted, scaled, half, fromParts, root-parts, scaled-whole, scaled-sized, parts-root, half-digits, half-low, half-cases, four-pow, size-parts}
 
 -- ---- over whole numbers: y is m * 2 ^ j, with no more digits than q

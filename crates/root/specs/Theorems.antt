@@ -13,12 +13,12 @@ use Rattle.complex.specs.Complex.{zeroF}
 use Rattle.root.specs.Units.{inUnits, clear-not-negative}
 use Rattle.root.specs.Root.{rootOf}
 use Rattle.root.specs.Nearest.{Candidate, Nearest, squareOfSum}
-use Rattle.root.specs.NearestLaws.{neither, strict, one-nearest, exact-nearest, nearest-grows}
+use Rattle.root.specs.NearestLaws.{neither, strict, not-both, exact-nearest, nearest-grows}
 use Rattle.root.specs.Rounding.{root-candidate, root-strict-above, root-strict-below}
 
 -- `Nearest` holds of one value, whatever the square q, ties and overflow included
 pub only-nearest : (r s : Float) (q : ℕ) → Nearest r q → Nearest s q → r ≡ s
-only-nearest = one-nearest
+only-nearest r s q R S = neither r s (R .value) (S .value) (not-both r s q R S) (not-both s r q S R)
 
 -- the root of a finite x above zero, subnormal ones included: the square q is x, which is inUnits x * 2 ^ 1074 times 2 ^ -2148
 pub root-nearest : (x : Float) → T (fits binary64 x) → T (positive x) → Nearest (rootOf x) (inUnits x * 2 ^ 1074)

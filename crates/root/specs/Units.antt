@@ -172,18 +172,18 @@ units-below s (suc m) e h =
 
 -- ---- two values with the sign clear that are as many units are one, and of two that are not, the one of more units has the larger pattern
 
-module _ (x y : Float) (fx : T (fits binary64 x)) (fy : T (fits binary64 y)) (px : T (signClear x)) (py : T (signClear y)) where
-  same-bits : toBits binary64 x ≡ toBits binary64 y → x ≡ y
-  same-bits e = sym (ofBits-toBits binary64 x fx) ∙ ap (ofBits binary64) e ∙ ofBits-toBits binary64 y fy
+pub same-bits : (x y : Float) → T (fits binary64 x) → T (fits binary64 y) → toBits binary64 x ≡ toBits binary64 y → x ≡ y
+same-bits x y fx fy e = sym (ofBits-toBits binary64 x fx) ∙ ap (ofBits binary64) e ∙ ofBits-toBits binary64 y fy
 
+module _ (x y : Float) (fx : T (fits binary64 x)) (fy : T (fits binary64 y)) (px : T (signClear x)) (py : T (signClear y)) where
   pub same-units : inUnits x ≡ inUnits y → x ≡ y
-  same-units e = same-bits (bits-pattern x px ∙ ap pattern e ∙ sym (bits-pattern y py))
+  same-units e = same-bits x y fx fy (bits-pattern x px ∙ ap pattern e ∙ sym (bits-pattern y py))
 
   bits-le : inUnits x ≤ inUnits y → toBits binary64 x ≤ toBits binary64 y
   bits-le h = le-trans (le-of-eq (bits-pattern x px)) (le-trans (pattern-mono (inUnits x) (inUnits y) h) (le-of-eq (sym (bits-pattern y py))))
 
   pub bits-lt : inUnits x < inUnits y → toBits binary64 x < toBits binary64 y
-  bits-lt h = lt-of-le-ne (bits-le (le-of-lt h)) (λ e. lt-irrefl (inUnits y) (subst (λ (v : Float). inUnits v < inUnits y) (same-bits e) h))
+  bits-lt h = lt-of-le-ne (bits-le (le-of-lt h)) (λ e. lt-irrefl (inUnits y) (subst (λ (v : Float). inUnits v < inUnits y) (same-bits x y fx fy e) h))
 
 pub units-lt : (x y : Float) → T (fits binary64 x) → T (fits binary64 y) → T (signClear x) → T (signClear y) → toBits binary64 x < toBits binary64 y → inUnits x < inUnits y
 units-lt x y fx fy px py h = lt-of-not-le (λ (g : inUnits y ≤ inUnits x). not-le-of-lt h (bits-le y x fy fx py px g))

@@ -1,8 +1,8 @@
 -- Whole roots: the largest number whose square is at most n. Nothing here is about floats. Assumes nothing.
 use mathlib.Core.Path.{_≡_, subst}
 use mathlib.Core.Bool.{Bool, true, false, not, cond}
-use Prim.Native.Nat.{ℕ, zero, suc, _*_, _/_, _^_, _≤_, _<_}
-use native.Mathlib.Nat.{le-antisymm, le-of-suc-le-suc, lt-of-le-of-lt, lt-of-not-le, not-le-of-lt, mul-le-mul, pow-suc, div-lt-iff-lt-mul, zero-lt-suc}
+use Prim.Native.Nat.{ℕ, zero, suc, _*_, _/_, _^_, _≤_, _<_, zero-le}
+use native.Mathlib.Nat.{le-antisymm, le-of-lt, le-of-suc-le-suc, lt-of-le-of-lt, lt-of-not-le, not-le-of-lt, mul-le-mul, mul-le-mul-left, mul-lt-mul-of-pos-right, pow-suc, div-lt-iff-lt-mul, zero-lt-suc}
 use native.Mathlib.Omega.{arith}
 use lib.Dec.{T, leb, leb→le, nleb→lt}
 
@@ -16,9 +16,12 @@ pub record IsRoot (n w : ℕ) : Type 0 where
   pub low : w * w ≤ n
   pub high : n < suc w * suc w
 
--- a smaller square has a smaller side
+-- squares are in the order of their sides
 pub side-lt : (a b : ℕ) → a * a < b * b → a < b
 side-lt a b h = lt-of-not-le (λ (g : b ≤ a). not-le-of-lt h (mul-le-mul g g))
+
+pub square-lt : (a b : ℕ) → a < b → a * a < b * b
+square-lt a b h = lt-of-le-of-lt (mul-le-mul-left a (le-of-lt h)) (mul-lt-mul-of-pos-right h (lt-of-le-of-lt zero-le h))
 
 -- n has one whole root
 pub only-root : (n v w : ℕ) → IsRoot n v → IsRoot n w → v ≡ w
