@@ -1,11 +1,10 @@
 -- Finite numbers, which are neither NaNs nor infinities, and gates of them.
-use mathlib.Core.Path.{_≡_, refl, ap, sym, _∙_}
+use mathlib.Core.Path.{_≡_, refl, sym, _∙_}
 use mathlib.Core.Logic.{⊎-elim}
 use mathlib.Core.Bool.{Bool, true, false, not, _&&_, _||_, Bool·beq}
 use mathlib.Core.List.{List}
-use Prim.Native.Nat.{ℕ, zero, suc, _*_, _-_, _<_}
+use Prim.Native.Nat.{ℕ, zero, suc, _*_, _<_}
 use native.Mathlib.Nat.{le-refl, sub-self, zero-mul, mul-pos, eq-of-mul-eq-mul-right, not-suc-le-zero, le-of-suc-le-suc, eq-or-lt-of-le}
-use native.Mathlib.Omega.{arith}
 use lib.Dec.{T, lit<}
 use borrow.Author.Tests.{le-ltb}
 use lib.Ieee.{Float, nan, inf, fin, binary64, up, down, round, sum, add, sub, neg, eq, ofBits}
