@@ -1,10 +1,17 @@
 -- Counted loops: n steps from a state, and sums from the left. A loop's invariant says that its state is `each k step start`.
-use mathlib.Core.Path.{_≡_, refl, ap, _∙_}
+use mathlib.Core.Path.{_≡_, refl, sym, ap, _∙_}
+use mathlib.Core.Bool.{Bool, true, _&&_}
+use mathlib.Core.Logic.{⊎-elim}
+use mathlib.Core.List.{List, [], _∷_, _++_}
 use Prim.Native.Nat.{ℕ, zero, suc, _+_, _-_, _≤_, _<_}
-use native.Mathlib.Nat.{le-refl}
+use native.Mathlib.Nat.{le-refl, eq-or-lt-of-le, le-of-suc-le-suc, not-suc-le-zero}
 use native.Mathlib.Numerals.{add-one}
 use native.Mathlib.Omega.{arith}
+use lib.Dec.{T}
+use lib.ListN.{length, getD, length-append, List·getD-append}
+use lib.Seq.{getD-at}
 use lib.Ieee.{Float, binary64, add}
+use lib.Ieee.Fits.{and-l, and-r, and-i}
 use Rattle.complex.specs.Complex.{addC}
 use Rattle.complex.specs.declared.Complex.{Complex}
 
@@ -23,6 +30,16 @@ sumC n f z = each n (λ k a. addC a (f k)) z
 
 abbrev pub sumF : ℕ → (ℕ → Float) → Float → Float
 sumF n f z = each n (λ k a. add binary64 a (f k)) z
+
+-- the list f 0, f 1, .. f (n - 1)
+unfoldable pub tabulate : {A : Type 0} → ℕ → (ℕ → A) → List A
+tabulate zero f = []
+tabulate (suc n) f = tabulate n f ++ (f n ∷ [])
+
+-- p holds of 0, 1, .. n - 1
+unfoldable pub every : ℕ → (ℕ → Bool) → Bool
+every zero p = true
+every (suc n) p = every n p && p n
 
 -- ---- laws: no step, and one step more
 
@@ -56,3 +73,43 @@ pub each-same : {A : Type 0} (n : ℕ) (f g : ℕ → A → A) (z : A) → ((k :
 unfolding each
 each-same zero f g z h = refl
 each-same (suc n) f g z h = ap (f n) (each-same n f g z (λ k l. h k (omega arith))) ∙ h n (le-refl (suc n))
+
+-- ---- a test of every number below n
+
+pub every-none : (p : ℕ → Bool) → every 0 p ≡ true
+unfolding every
+every-none p = refl
+
+pub every-more : (n : ℕ) (p : ℕ → Bool) → every (n + 1) p ≡ (every n p && p n)
+unfolding every
+every-more n p = rw add-one
+
+pub every-at : (n : ℕ) (p : ℕ → Bool) (k : ℕ) → k < n → T (every n p) → T (p k)
+unfolding every
+every-at zero p k h t = absurd (not-suc-le-zero h)
+every-at (suc n) p k h t =
+    ⊎-elim
+    (λ (e : k ≡ n). rw e (and-r (every n p) (p n) t))
+    (λ (l : k < n). every-at n p k l (and-l (every n p) (p n) t))
+    (eq-or-lt-of-le (le-of-suc-le-suc h))
+
+pub every-of : (n : ℕ) (p : ℕ → Bool) → ((k : ℕ) → k < n → T (p k)) → T (every n p)
+unfolding every
+every-of zero p h = tt
+every-of (suc n) p h = and-i (every n p) (p n) (every-of n p (λ k l. h k (omega arith))) (h n (le-refl (suc n)))
+
+-- ---- a list by its elements
+
+pub length-tabulate : {A : Type 0} (n : ℕ) (f : ℕ → A) → length (tabulate n f) ≡ n
+unfolding tabulate
+length-tabulate zero f = refl
+length-tabulate (suc n) f = length-append (tabulate n f) (f n ∷ []) ∙ omega (arith, length-tabulate n f)
+
+pub getD-tabulate : {A : Type 0} (n : ℕ) (f : ℕ → A) (d : A) (k : ℕ) → k < n → getD (tabulate n f) k d ≡ f k
+unfolding tabulate
+getD-tabulate zero f d k h = absurd (not-suc-le-zero h)
+getD-tabulate (suc n) f d k h =
+    ⊎-elim
+    (λ (e : k ≡ n). getD-at (tabulate n f) (f n) [] d k (length-tabulate n f ∙ sym e) ∙ ap f (sym e))
+    (λ (l : k < n). List·getD-append (tabulate n f) (f n ∷ []) d k (omega (arith, length-tabulate n f)) ∙ getD-tabulate n f d k l)
+    (eq-or-lt-of-le (le-of-suc-le-suc h))

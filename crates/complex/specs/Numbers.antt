@@ -27,14 +27,10 @@ store xs k z = set (set xs (2 * k) (z .re)) (2 * k + 1) (z .im)
 abbrev pub stores : ℕ → (ℕ → ℕ) → (ℕ → Complex) → List Float → List Float
 stores n p f xs = each n (λ k ys. store ys (p k) (f k)) xs
 
--- f 0, f 1, .. f (n - 1), one after the other: complex numbers, and real ones
+-- the complex numbers f 0, f 1, .. f (n - 1), one after the other
 unfoldable pub numbers : ℕ → (ℕ → Complex) → List Float
 numbers zero f = []
 numbers (suc n) f = let z = f n in numbers n f ++ (z .re ∷ z .im ∷ [])
-
-unfoldable pub reals : ℕ → (ℕ → Float) → List Float
-reals zero f = []
-reals (suc n) f = reals n f ++ (f n ∷ [])
 
 -- ---- laws of a store
 
@@ -120,17 +116,12 @@ at-right xs ys n r e =
       im = (ap (λ (k : ℕ). getD (xs ++ ys) k nan) b ∙ getD-append-add xs ys (2 * r + 1) nan) i;
     }
 
--- ---- laws of `numbers` and `reals`
+-- ---- laws of `numbers`
 
 pub length-numbers : (n : ℕ) (f : ℕ → Complex) → length (numbers n f) ≡ 2 * n
 unfolding numbers
 length-numbers zero f = refl
 length-numbers (suc n) f = length-append (numbers n f) (f n .re ∷ f n .im ∷ []) ∙ omega (arith, length-numbers n f)
-
-pub length-reals : (n : ℕ) (f : ℕ → Float) → length (reals n f) ≡ n
-unfolding reals
-length-reals zero f = refl
-length-reals (suc n) f = length-append (reals n f) (f n ∷ []) ∙ omega (arith, length-reals n f)
 
 pub at-numbers : (n : ℕ) (f : ℕ → Complex) (k : ℕ) → k < n → at (numbers n f) k ≡ f k
 unfolding numbers at

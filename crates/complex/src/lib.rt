@@ -37,12 +37,12 @@ pub fn neg(a: Complex) -> Complex
     }
 }
 
-pub fn conj(a: Complex) -> Complex
-    ensures { λ r. ⌜ r ≡ conjC a ⌝ }
+pub fn conj(z: Complex) -> Complex
+    ensures { λ r. ⌜ r ≡ conjC z ⌝ }
 {
     Complex {
-        re: a.re,
-        im: -a.im,
+        re: z.re,
+        im: -z.im,
     }
 }
 

@@ -1,24 +1,19 @@
 -- Finite numbers, which are neither NaNs nor infinities, and gates of them.
 use mathlib.Core.Path.{_≡_, refl, sym, _∙_}
-use mathlib.Core.Logic.{⊎-elim}
 use mathlib.Core.Bool.{Bool, true, false, not, _&&_, _||_, Bool·beq}
 use mathlib.Core.List.{List}
-use Prim.Native.Nat.{ℕ, zero, suc, _*_, _<_}
-use native.Mathlib.Nat.{le-refl, sub-self, zero-mul, mul-pos, eq-of-mul-eq-mul-right, not-suc-le-zero, le-of-suc-le-suc, eq-or-lt-of-le}
+use Prim.Native.Nat.{ℕ, _*_, _<_}
+use native.Mathlib.Nat.{le-refl, sub-self, zero-mul, mul-pos, eq-of-mul-eq-mul-right}
 use lib.Dec.{T, lit<}
 use borrow.Author.Tests.{le-ltb}
 use lib.Ieee.{Float, nan, inf, fin, binary64, up, down, round, sum, add, sub, neg, eq, ofBits}
 use lib.Ieee.Exact.{HasValue, round-exact}
-use lib.Ieee.Fits.{down-pos, and-l, and-r}
+use lib.Ieee.Fits.{down-pos}
 use lib.Ieee.Scale.{finite}
 use Rattle.complex.specs.Complex.{zeroF}
+use Rattle.complex.specs.Loops.{every, every-at}
 use Rattle.complex.specs.declared.Complex.{Complex}
 use Rattle.gates.specs.Gate.{entry}
-
--- p holds of 0, 1, .. n - 1
-unfoldable pub every : ℕ → (ℕ → Bool) → Bool
-every zero p = true
-every (suc n) p = every n p && p n
 
 -- both parts of a number are finite, and all parts of a gate's numbers
 unfoldable pub finiteC : Complex → Bool
@@ -56,15 +51,6 @@ finite-minus (inf true) = refl
 finite-minus (fin s m e) = minus-self s (m * up e * down e) (down e * down e) (mul-pos (down-pos e) (down-pos e))
 
 -- ---- laws
-
-pub every-at : (n : ℕ) (p : ℕ → Bool) (k : ℕ) → k < n → T (every n p) → T (p k)
-unfolding every
-every-at zero p k h t = absurd (not-suc-le-zero h)
-every-at (suc n) p k h t =
-    ⊎-elim
-    (λ (e : k ≡ n). rw e (and-r (every n p) (p n) t))
-    (λ (l : k < n). every-at n p k l (and-l (every n p) (p n) t))
-    (eq-or-lt-of-le (le-of-suc-le-suc h))
 
 -- each element of a finite gate is finite
 pub finite-entry : (g : List (List Complex)) (r c : ℕ) → r < 4 → c < 4 → T (allFinite g) → T (finiteC (entry g r c))

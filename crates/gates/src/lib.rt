@@ -4,7 +4,8 @@ use complex::Complex;
 ghost use mathlib.Core.Path.{_≡_};
 ghost use lib.Ieee.Scale.{finite};
 ghost use Rattle.gates.specs.Gate.{number, four, swapBits, swapGateQubits};
-ghost use Rattle.gates.specs.Finite.{every, finiteC, allFinite};
+ghost use Rattle.complex.specs.Loops.{every};
+ghost use Rattle.gates.specs.Finite.{finiteC, allFinite};
 ghost use Rattle.gates.specs.Named.{matrixOf};
 
 // The gates that have names. The first qubit of Cx controls.

@@ -1,4 +1,4 @@
-use Rattle.gates.specs.Finite.{every}
+use Rattle.complex.specs.Loops.{every}
 use borrow.Author.Needs.{needs}
 use Rattle.gates.proofs.finite_row.Statement.{statement}
 use Rattle.gates.proofs.finite_row.Tie as tie

@@ -1,4 +1,5 @@
-use Rattle.gates.specs.Finite.{every, allFinite}
+use Rattle.complex.specs.Loops.{every}
+use Rattle.gates.specs.Finite.{allFinite}
 use borrow.Author.Needs.{needs}
 use Rattle.gates.proofs.is_finite.Statement.{statement}
 use Rattle.gates.proofs.is_finite.Tie as tie
