@@ -1,13 +1,16 @@
 -- Matrices in a list of floats. A column-major matrix of `high` rows has its element (r, c) at number c * high + r.
-use mathlib.Core.Path.{_≡_, sym, ap, _∙_}
+use mathlib.Core.Path.{_≡_, refl, sym, ap, ap₂, _∙_}
 use mathlib.Core.Logic.{⊎-elim}
-use mathlib.Core.List.{List, [], _++_}
-use Prim.Native.Nat.{ℕ, zero, suc, _+_, _*_, _/_, _%_, _≤_, _<_}
-use native.Mathlib.Nat.{add-zero, mod-lt, mod-eq-of-lt, mul-add-mod-self-right, mul-add-div-right, div-eq-of-lt, div-add-mod', div-lt-iff-lt-mul, eq-or-lt-of-le, le-of-suc-le-suc, not-suc-le-zero, mul-le-mul-right}
+use mathlib.Core.List.{List, [], _∷_, _++_, append-nil, append-assoc}
+use Prim.Native.Nat.{ℕ, zero, suc, _+_, _-_, _*_, _/_, _%_, _≤_, _<_}
+use native.Mathlib.Nat.{le-refl, add-zero, add-suc, zero-mul, suc-mul, add-mul, mod-lt, mod-eq-of-lt, mul-add-mod-self-right, mul-add-div-right, div-eq-of-lt, div-add-mod', div-lt-iff-lt-mul, eq-or-lt-of-le, le-of-suc-le-suc, not-suc-le-zero, mul-le-mul-right}
+use native.Mathlib.Numerals.{add-one}
 use native.Mathlib.Omega.{arith}
-use lib.ListN.{length, length-append}
+use lib.ListN.{length, take, drop, length-append}
+use lib.Seq.{take-at, drop-at, drop-drop, drop-length}
 use lib.Ieee.{Float}
 use Rattle.complex.specs.Loops.{each}
+use Rattle.complex.specs.Parts.{put}
 use Rattle.complex.specs.Numbers.{count, at, store, numbers, length-store, at-store-same, at-store-other, each-length, each-apart, each-at, ext-at, at-left, at-right, length-numbers, at-numbers}
 use Rattle.complex.specs.declared.Complex.{Complex}
 
@@ -103,3 +106,58 @@ matrix-rows high wide f xs e = ext-at (wide * high) _ _ (length-matrix high wide
         rw q
         (at-matrix high wide f xs r c hr hc (omega arith)
         ∙ sym (at-rows high _ (λ c. length-numbers high (λ r. f r c)) wide c r hc hr ∙ at-numbers high (λ r. f r c) r hr))
+
+-- ---- rows that agree below n, rows of rows, and rows of numbers
+
+pub rows-same : (n : ℕ) (f g : ℕ → List Float) → ((k : ℕ) → k < n → f k ≡ g k) → rows n f ≡ rows n g
+unfolding rows
+rows-same zero f g h = refl
+rows-same (suc n) f g h = ap₂ (λ (xs ys : List Float). xs ++ ys) (rows-same n f g (λ k l. h k (omega arith))) (h n (le-refl (suc n)))
+
+pub rows-append : (n m : ℕ) (f : ℕ → List Float) → rows (n + m) f ≡ rows n f ++ rows m (λ k. f (n + k))
+unfolding rows
+rows-append n zero f = rw add-zero (sym (append-nil (rows n f)))
+rows-append n (suc m) f =
+    ap (λ (k : ℕ). rows k f) (add-suc n m) ∙ ap (λ (xs : List Float). xs ++ f (n + m)) (rows-append n m f) ∙ append-assoc (rows n f) (rows m (λ k. f (n + k))) (f (n + m))
+
+pub rows-rows : (n m : ℕ) (f : ℕ → List Float) → rows n (λ i. rows m (λ j. f (i * m + j))) ≡ rows (n * m) f
+unfolding rows
+rows-rows zero m f = rw zero-mul
+rows-rows (suc n) m f =
+    ap (λ (xs : List Float). xs ++ rows m (λ j. f (n * m + j))) (rows-rows n m f) ∙ sym (rows-append (n * m) m f) ∙ ap (λ (k : ℕ). rows k f) (sym (suc-mul n m))
+
+numbers-one : (f : ℕ → Complex) (n : ℕ) → numbers n f ≡ rows n (λ k. f k .re ∷ f k .im ∷ [])
+unfolding numbers rows
+numbers-one f zero = refl
+numbers-one f (suc n) = ap (λ (xs : List Float). xs ++ (f n .re ∷ f n .im ∷ [])) (numbers-one f n)
+
+pub rows-numbers : (n m : ℕ) (f : ℕ → Complex) → rows n (λ i. numbers m (λ j. f (i * m + j))) ≡ numbers (n * m) f
+rows-numbers n m f =
+    rows-same n _ _ (λ i _. numbers-one (λ j. f (i * m + j)) m) ∙ rows-rows n m (λ k. f k .re ∷ f k .im ∷ []) ∙ sym (numbers-one f (n * m))
+
+-- ---- a list filled by blocks of w floats each from the front: what lending one block after the other leaves
+
+pub block-none : (f : ℕ → List Float) (o : List Float) → o ≡ rows 0 f ++ drop 0 o
+unfolding rows
+block-none f o = refl
+
+module _ (w : ℕ) (f : ℕ → List Float) (len : (c : ℕ) → length (f c) ≡ w) where
+  pub length-blocks : (n : ℕ) → length (rows n f) ≡ n * w
+  unfolding rows
+  length-blocks zero = sym (zero-mul w)
+  length-blocks (suc n) = length-append (rows n f) (f n) ∙ omega (arith, length-blocks n, len n, suc-mul n w)
+
+  pub block-more : (c : ℕ) (o : List Float) → c * w + w ≤ length o
+      → put (c * w) (c * w + w) (rows c f ++ drop (c * w) o) (f c) ≡ rows (c + 1) f ++ drop ((c + 1) * w) o
+  unfolding rows
+  block-more c o h =
+      let e : c * w + w - c * w ≡ w = omega arith in
+      let s : (c + 1) * w ≡ c * w + w = omega (arith, add-mul c 1 w) in
+      ap₂ (λ (xs ys : List Float). xs ++ (f c ++ ys))
+      (take-at (rows c f) (drop (c * w) o) (c * w) (length-blocks c))
+      (ap (drop (c * w + w - c * w)) (drop-at (rows c f) (drop (c * w) o) (c * w) (length-blocks c)) ∙ ap (λ (k : ℕ). drop k (drop (c * w) o)) e ∙ drop-drop w (c * w) o)
+      ∙ sym (append-assoc (rows c f) (f c) (drop (c * w + w) o))
+      ∙ ap₂ (λ (k m : ℕ). rows k f ++ drop m o) (sym (add-one c)) (sym s)
+
+  pub block-all : (n : ℕ) (o : List Float) → length o ≡ n * w → rows n f ++ drop (n * w) o ≡ rows n f
+  block-all n o h = ap (λ (k : ℕ). rows n f ++ drop k o) (sym h) ∙ ap (λ (ys : List Float). rows n f ++ ys) (drop-length o) ∙ append-nil (rows n f)

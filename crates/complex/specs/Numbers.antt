@@ -8,7 +8,7 @@ use native.Mathlib.Omega.{arith}
 use lib.ListN.{length, getD, set, length-set, length-append, List·getD-append}
 use lib.Seq.{ext-getD, getD-set-same, getD-set-other, getD-append-add}
 use lib.Ieee.{Float, nan}
-use Rattle.complex.specs.Loops.{each, each-keeps}
+use Rattle.complex.specs.Loops.{each, each-keeps, each-same}
 use Rattle.complex.specs.declared.Complex.{Complex}
 
 -- how many complex numbers a list holds
@@ -140,3 +140,16 @@ pub stores-numbers : (n : ℕ) (f : ℕ → Complex) (xs : List Float) → lengt
 stores-numbers n f xs e =
     ext-at n _ (numbers n f) (length-stores n (λ k. k) f xs ∙ e) (length-numbers n f)
     (λ k h. at-stores n (λ k. k) f xs k h (omega arith) (λ i a b. omega arith) ∙ sym (at-numbers n f k h))
+
+-- numbers that agree below n
+pub numbers-same : (n : ℕ) (f g : ℕ → Complex) → ((k : ℕ) → k < n → f k ≡ g k) → numbers n f ≡ numbers n g
+numbers-same n f g h =
+    ext-at n (numbers n f) (numbers n g) (length-numbers n f) (length-numbers n g) (λ k l. at-numbers n f k l ∙ h k l ∙ sym (at-numbers n g k l))
+
+-- Stores from `to` on whose values read only what lies before `to` are stores of what they read at first.
+pub stores-apart : (n to : ℕ) (f : List Float → ℕ → Complex) (w : List Float)
+    → ((ys : List Float) (k : ℕ) → ((j : ℕ) → j < to → at ys j ≡ at w j) → k < n → f ys k ≡ f w k)
+    → each n (λ k ys. store ys (to + k) (f ys k)) w ≡ stores n (λ k. to + k) (f w) w
+stores-apart n to f w reads =
+    each-same n (λ k ys. store ys (to + k) (f ys k)) (λ k ys. store ys (to + k) (f w k)) w
+    (λ k l. let ys = stores k (λ i. to + i) (f w) w in ap (store ys (to + k)) (reads ys k (λ j m. at-stores-other k (λ i. to + i) (f w) w j (λ i _. omega arith)) l))

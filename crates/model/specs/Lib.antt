@@ -1,4 +1,4 @@
--- What a reader must believe, leaves first.
+-- ---- Definitions: what a reader must believe, leaves first.
 pub mod Chain
 pub mod Slots
 pub mod Columns
@@ -19,4 +19,20 @@ pub mod Calls
 pub mod Phases
 pub mod Lists
 pub mod Machine
+-- ---- Statements of the buyer's demands, each short.
+pub mod Demand1Sound
 pub mod Demand3
+-- ---- Laws and proofs.
+pub mod SoundFacts
+pub mod QrRank
+pub mod SoundChanges
+pub mod MoveLaws
+pub mod SoundKept
+pub mod SecondCut
+pub mod Units
+pub mod UnitFloats
+pub mod UnitSvd
+pub mod UnitCut
+pub mod UnitMoves
+pub mod UnitSites
+pub mod UnitGates

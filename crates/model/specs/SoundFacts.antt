@@ -1,0 +1,293 @@
+-- What a sound chain record is, in propositions: the test `sound` and these are equivalent.
+use Prim.Native.Nat.{ℕ, _+_, _-_, _≤_, _<_}
+use mathlib.Core.Path.{_≡_, refl}
+use mathlib.Core.Bool.{Bool, true, false, _&&_, _||_}
+use mathlib.Core.Logic.{⊎-elim, _⊎_, inl, inr}
+use mathlib.Core.List.{List}
+use native.Mathlib.Decide.{decLt}
+use native.Mathlib.Omega.{arith}
+use lib.Dec.{T, leb, ltb, eqb, leb→le, le→leb, ltb→lt, lt→ltb, eqb→eq}
+use lib.ListN.{length, getD, List·getD-eq-default}
+use lib.Ieee.{Float, le, lt}
+use lib.Ieee.Fits.{and-l, and-r, and-i, eq→eqb}
+use Rattle.complex.specs.Complex.{zeroF, oneF}
+use Rattle.complex.specs.Loops.{every, every-at, every-of}
+use Rattle.model.specs.declared.Center.{Center}
+use Rattle.model.specs.declared.Center.the-variants.{Unknown, At}
+use Rattle.model.specs.declared.Chain.{Chain}
+use Rattle.model.specs.Chain.{bondLeft, bondRight}
+use Rattle.model.specs.Sound.{within, share01, settingsFit, entryFits, bondsFit, undoes, centerFits, sized, sound}
+
+-- ---- the propositions
+
+-- the settings are in range
+pub record Settings (n d : ℕ) (epsilon clamp : Float) (exponent : ℕ) : Type 0 where
+  pub qubits : (1 ≤ n) × (n ≤ 64)
+  pub cap : (1 ≤ d) × (d ≤ 128)
+  pub epsilon-range : T (le zeroF epsilon) × T (lt epsilon oneF)
+  pub clamp-range : T (le zeroF clamp) × T (lt clamp oneF)
+  pub exponent-range : exponent ≤ 63
+
+-- the outer bonds are 1, neighbours agree, each bond of the n sites is from 1 to the high water, and the entries from n on are 0
+pub record Bonds (n high : ℕ) (left right : List ℕ) : Type 0 where
+  pub first : getD left 0 0 ≡ 1
+  pub last : getD right (n - 1) 0 ≡ 1
+  pub neighbours : (i : ℕ) → i + 1 < n → getD right i 0 ≡ getD left (i + 1) 0
+  pub left-range : (k : ℕ) → k < n → (1 ≤ getD left k 0) × (getD left k 0 ≤ high)
+  pub right-range : (k : ℕ) → k < n → (1 ≤ getD right k 0) × (getD right k 0 ≤ high)
+  pub left-past : (k : ℕ) → n ≤ k → getD left k 0 ≡ 0
+  pub right-past : (k : ℕ) → n ≤ k → getD right k 0 ≡ 0
+
+-- one map goes from below n to below n, the other undoes it, and its entries from n on are 0
+pub record Undone (n : ℕ) (there back : List ℕ) : Type 0 where
+  pub below : (i : ℕ) → i < n → getD there i 0 < n
+  pub undone : (i : ℕ) → i < n → getD back (getD there i 0) 0 ≡ i
+  pub past : (i : ℕ) → n ≤ i → getD there i 0 ≡ 0
+
+-- the arrays have 64 entries
+pub record Sized (c : Chain) : Type 0 where
+  pub lefts : length (c .«bond_left») ≡ 64
+  pub rights : length (c .«bond_right») ≡ 64
+  pub sites : length (c .«logical_to_site») ≡ 64
+  pub qubits : length (c .«site_to_logical») ≡ 64
+  pub bits : length (c .«classical_bits») ≡ 64
+
+pub record Sound (c : Chain) : Type 0 where
+  pub settings : Settings (c .«num_qubits») (c .«max_bond_dim») (c .«svd_epsilon») (c .«norm_clamp_min») (c .«workspace_exponent»)
+  pub high-water : (1 ≤ c .«bond_high_water») × (c .«bond_high_water» ≤ c .«max_bond_dim»)
+  pub bonds : Bonds (c .«num_qubits») (c .«bond_high_water») (c .«bond_left») (c .«bond_right»)
+  pub sites : Undone (c .«num_qubits») (c .«logical_to_site») (c .«site_to_logical»)
+  pub qubits : Undone (c .«num_qubits») (c .«site_to_logical») (c .«logical_to_site»)
+  pub centre : (k : ℕ) → c .center ≡ At k → k < c .«num_qubits»
+  pub sizes : Sized c
+
+-- ---- tests and facts
+
+-- an index lies below n or not
+pub below-or-past : (i n : ℕ) → (i < n) ⊎ (n ≤ i)
+below-or-past i n = choose (decLt i n)
+  where
+    choose : Dec (i < n) → (i < n) ⊎ (n ≤ i)
+    choose (yes l) = inl l
+    choose (no l) = inr (omega arith)
+
+or-test : (a b : Bool) → T (a || b) → (T a → ⊥) → T b
+or-test true b h no-a = absurd (no-a tt)
+or-test false b h no-a = h
+
+or-first : (a b : Bool) → T a → T (a || b)
+or-first true b h = tt
+or-first false b h = absurd h
+
+or-second : (a b : Bool) → T b → T (a || b)
+or-second true b h = tt
+or-second false b h = h
+
+-- a conjunction of five tests, and of seven
+module _ (a b c d e : Bool) where
+  five : T (a && b && c && d && e) → T a × T b × T c × T d × T e
+  five h =
+      let h4 = and-l (a && b && c && d) e h in
+      let h3 = and-l (a && b && c) d h4 in
+      let h2 = and-l (a && b) c h3 in
+      (and-l a b h2, and-r a b h2, and-r (a && b) c h3, and-r (a && b && c) d h4, and-r (a && b && c && d) e h)
+
+  of-five : T a → T b → T c → T d → T e → T (a && b && c && d && e)
+  of-five ha hb hc hd he = and-i (a && b && c && d) e (and-i (a && b && c) d (and-i (a && b) c (and-i a b ha hb) hc) hd) he
+
+  module _ (f g : Bool) where
+    seven : T (a && b && c && d && e && f && g) → T a × T b × T c × T d × T e × T f × T g
+    seven h =
+        let h6 = and-l (a && b && c && d && e && f) g h in
+        let t = five (and-l (a && b && c && d && e) f h6) in
+        (t .0, t .1, t .2, t .3, t .4, and-r (a && b && c && d && e) f h6, and-r (a && b && c && d && e && f) g h)
+
+    of-seven : T a → T b → T c → T d → T e → T f → T g → T (a && b && c && d && e && f && g)
+    of-seven ha hb hc hd he hf hg = and-i (a && b && c && d && e && f) g (and-i (a && b && c && d && e) f (of-five ha hb hc hd he) hf) hg
+
+within-range : (low high x : ℕ) → T (within low high x) → (low ≤ x) × (x ≤ high)
+within-range low high x h = (leb→le low x (and-l (leb low x) (leb x high) h), leb→le x high (and-r (leb low x) (leb x high) h))
+
+range-within : (low high x : ℕ) → (low ≤ x) × (x ≤ high) → T (within low high x)
+range-within low high x h = and-i (leb low x) (leb x high) (le→leb low x (h .0)) (le→leb x high (h .1))
+
+share-range : (x : Float) → T (share01 x) → T (le zeroF x) × T (lt x oneF)
+share-range x h = (and-l (le zeroF x) (lt x oneF) h, and-r (le zeroF x) (lt x oneF) h)
+
+range-share : (x : Float) → T (le zeroF x) × T (lt x oneF) → T (share01 x)
+range-share x h = and-i (le zeroF x) (lt x oneF) (h .0) (h .1)
+
+-- ---- the settings
+
+module _ (n d : ℕ) (epsilon clamp : Float) (exponent : ℕ) where
+  pub settings-facts : T (settingsFit n d epsilon clamp exponent) → Settings n d epsilon clamp exponent
+  unfolding settingsFit
+  settings-facts h =
+      let t = five (within 1 64 n) (within 1 128 d) (share01 epsilon) (share01 clamp) (leb exponent 63) h in
+      record {
+        qubits = within-range 1 64 n (t .0);
+        cap = within-range 1 128 d (t .1);
+        epsilon-range = share-range epsilon (t .2);
+        clamp-range = share-range clamp (t .3);
+        exponent-range = leb→le exponent 63 (t .4);
+      }
+
+  pub facts-settings : Settings n d epsilon clamp exponent → T (settingsFit n d epsilon clamp exponent)
+  unfolding settingsFit
+  facts-settings h =
+      of-five (within 1 64 n) (within 1 128 d) (share01 epsilon) (share01 clamp) (leb exponent 63)
+      (range-within 1 64 n (h .qubits)) (range-within 1 128 d (h .cap)) (range-share epsilon (h .epsilon-range)) (range-share clamp (h .clamp-range)) (le→leb exponent 63 (h .exponent-range))
+
+-- ---- bonds and maps
+
+-- an entry within the chain passes its test, and one past the chain is 0
+module _ (n : ℕ) (xs : List ℕ) (p : ℕ → Bool) (i : ℕ) where
+  entry-within : T (entryFits n xs p i) → i < n → T (p (getD xs i 0))
+  entry-within h l = or-test (leb n i) (p (getD xs i 0)) (and-l (leb n i || p (getD xs i 0)) _ h) (λ t. let m = leb→le n i t in omega arith)
+
+  entry-past : T (entryFits n xs p i) → n ≤ i → getD xs i 0 ≡ 0
+  entry-past h l = eqb→eq (getD xs i 0) 0 (or-test (ltb i n) _ (and-r (leb n i || p (getD xs i 0)) _ h) (λ t. let m = ltb→lt i n t in omega arith))
+
+  entry-fits : (i < n → T (p (getD xs i 0))) → (n ≤ i → getD xs i 0 ≡ 0) → T (entryFits n xs p i)
+  entry-fits inside outside = ⊎-elim
+      (λ (l : i < n). and-i (leb n i || p (getD xs i 0)) _ (or-second (leb n i) _ (inside l)) (or-first (ltb i n) _ (lt→ltb i n l)))
+      (λ (l : n ≤ i). and-i (leb n i || p (getD xs i 0)) _ (or-first (leb n i) _ (le→leb n i l)) (or-second (ltb i n) _ (eq→eqb (outside l))))
+      (below-or-past i n)
+
+-- a list of 64 entries that are 0 from n on up to 64 is 0 from n on
+past-all : (n : ℕ) (xs : List ℕ) → length xs ≡ 64 → ((i : ℕ) → i < 64 → n ≤ i → getD xs i 0 ≡ 0) → (i : ℕ) → n ≤ i → getD xs i 0 ≡ 0
+past-all n xs e h i l = ⊎-elim (λ (m : i < 64). h i m l) (λ (m : 64 ≤ i). List·getD-eq-default xs 0 (omega arith)) (below-or-past i 64)
+
+module _ (c : Chain) where
+  abbrev range : ℕ → Bool
+  range = within 1 (c .«bond_high_water»)
+
+  abbrev agree : ℕ → Bool
+  agree i = leb (c .«num_qubits») (i + 1) || eqb (bondRight c i) (bondLeft c (i + 1))
+
+  abbrev leftFits : ℕ → Bool
+  leftFits = entryFits (c .«num_qubits») (c .«bond_left») range
+
+  abbrev rightFits : ℕ → Bool
+  rightFits = entryFits (c .«num_qubits») (c .«bond_right») range
+
+  bonds-facts : c .«num_qubits» ≤ 64 → Sized c → T (bondsFit c) → Bonds (c .«num_qubits») (c .«bond_high_water») (c .«bond_left») (c .«bond_right»)
+  unfolding bondsFit
+  bonds-facts most z h =
+      let n = c .«num_qubits» in
+      let t = five (eqb (bondLeft c 0) 1) (eqb (bondRight c (n - 1)) 1) (every 63 agree) (every 64 leftFits) (every 64 rightFits) h in
+      record {
+        first = eqb→eq (bondLeft c 0) 1 (t .0);
+        last = eqb→eq (bondRight c (n - 1)) 1 (t .1);
+        neighbours = λ i l. eqb→eq (bondRight c i) (bondLeft c (i + 1)) (or-test (leb n (i + 1)) _ (every-at 63 agree i (omega arith) (t .2)) (λ m. let m′ = leb→le n (i + 1) m in omega arith));
+        left-range = λ k l. within-range 1 (c .«bond_high_water») _ (entry-within n (c .«bond_left») range k (every-at 64 leftFits k (omega arith) (t .3)) l);
+        right-range = λ k l. within-range 1 (c .«bond_high_water») _ (entry-within n (c .«bond_right») range k (every-at 64 rightFits k (omega arith) (t .4)) l);
+        left-past = past-all n (c .«bond_left») (z .lefts) (λ i m. entry-past n (c .«bond_left») range i (every-at 64 leftFits i m (t .3)));
+        right-past = past-all n (c .«bond_right») (z .rights) (λ i m. entry-past n (c .«bond_right») range i (every-at 64 rightFits i m (t .4)));
+      }
+
+  facts-bonds : Bonds (c .«num_qubits») (c .«bond_high_water») (c .«bond_left») (c .«bond_right») → T (bondsFit c)
+  unfolding bondsFit
+  facts-bonds h =
+      let n = c .«num_qubits» in
+      of-five (eqb (bondLeft c 0) 1) (eqb (bondRight c (n - 1)) 1) (every 63 agree) (every 64 leftFits) (every 64 rightFits)
+      (eq→eqb (h .first))
+      (eq→eqb (h .last))
+      (every-of 63 agree (λ i l. ⊎-elim
+      (λ (m : i + 1 < n). or-second (leb n (i + 1)) _ (eq→eqb (h .neighbours i m)))
+      (λ (m : n ≤ i + 1). or-first (leb n (i + 1)) _ (le→leb n (i + 1) m))
+      (below-or-past (i + 1) n)))
+      (every-of 64 leftFits (λ k l. entry-fits n (c .«bond_left») range k (λ m. range-within 1 (c .«bond_high_water») _ (h .left-range k m)) (h .left-past k)))
+      (every-of 64 rightFits (λ k l. entry-fits n (c .«bond_right») range k (λ m. range-within 1 (c .«bond_high_water») _ (h .right-range k m)) (h .right-past k)))
+
+module _ (n : ℕ) (there back : List ℕ) where
+  undone-facts : n ≤ 64 → length there ≡ 64 → T (undoes n there back) → Undone n there back
+  unfolding undoes
+  undone-facts most e h =
+      let goes : ℕ → ℕ → Bool = λ i s. ltb s n && eqb (getD back s 0) i in
+      let fits : ℕ → Bool = λ i. entryFits n there (goes i) i in
+      let inside : (i : ℕ) → i < n → T (goes i (getD there i 0)) = λ i l. entry-within n there (goes i) i (every-at 64 fits i (omega arith) h) l in
+      record {
+        below = λ i l. ltb→lt _ n (and-l (ltb (getD there i 0) n) _ (inside i l));
+        undone = λ i l. eqb→eq _ i (and-r (ltb (getD there i 0) n) _ (inside i l));
+        past = past-all n there e (λ i m. entry-past n there (goes i) i (every-at 64 fits i m h));
+      }
+
+  facts-undone : Undone n there back → T (undoes n there back)
+  unfolding undoes
+  facts-undone h =
+      let goes : ℕ → ℕ → Bool = λ i s. ltb s n && eqb (getD back s 0) i in
+      every-of 64 (λ i. entryFits n there (goes i) i)
+      (λ i m. entry-fits n there (goes i) i (λ l. and-i (ltb (getD there i 0) n) _ (lt→ltb _ n (h .below i l)) (eq→eqb (h .undone i l))) (h .past i))
+
+centre-facts : (at : Center) (n : ℕ) → T (centerFits at n) → (k : ℕ) → at ≡ At k → k < n
+centre-facts at n h k e = ltb→lt k n (rw e at h)
+
+facts-centre : (at : Center) (n : ℕ) → ((k : ℕ) → at ≡ At k → k < n) → T (centerFits at n)
+facts-centre Unknown n h = tt
+facts-centre (At k) n h = lt→ltb k n (h k refl)
+
+module _ (c : Chain) where
+  abbrev long : {A : Type 0} → List A → Bool
+  long xs = eqb (length xs) 64
+
+  sized-facts : T (sized c) → Sized c
+  unfolding sized
+  sized-facts h =
+      let t = five (long (c .«bond_left»)) (long (c .«bond_right»)) (long (c .«logical_to_site»)) (long (c .«site_to_logical»)) (long (c .«classical_bits»)) h in
+      record {
+        lefts = eqb→eq _ 64 (t .0);
+        rights = eqb→eq _ 64 (t .1);
+        sites = eqb→eq _ 64 (t .2);
+        qubits = eqb→eq _ 64 (t .3);
+        bits = eqb→eq _ 64 (t .4);
+      }
+
+  facts-sized : Sized c → T (sized c)
+  unfolding sized
+  facts-sized h =
+      of-five (long (c .«bond_left»)) (long (c .«bond_right»)) (long (c .«logical_to_site»)) (long (c .«site_to_logical»)) (long (c .«classical_bits»))
+      (eq→eqb (h .lefts)) (eq→eqb (h .rights)) (eq→eqb (h .sites)) (eq→eqb (h .qubits)) (eq→eqb (h .bits))
+
+  -- ---- the test passes exactly where the propositions hold
+
+  abbrev settingsTest : Bool
+  settingsTest = settingsFit (c .«num_qubits») (c .«max_bond_dim») (c .«svd_epsilon») (c .«norm_clamp_min») (c .«workspace_exponent»)
+
+  abbrev waterTest : Bool
+  waterTest = within 1 (c .«max_bond_dim») (c .«bond_high_water»)
+
+  abbrev sitesTest : Bool
+  sitesTest = undoes (c .«num_qubits») (c .«logical_to_site») (c .«site_to_logical»)
+
+  abbrev qubitsTest : Bool
+  qubitsTest = undoes (c .«num_qubits») (c .«site_to_logical») (c .«logical_to_site»)
+
+  pub sound-facts : T (sound c) → Sound c
+  unfolding sound
+  sound-facts h =
+      let t = seven settingsTest waterTest (bondsFit c) sitesTest qubitsTest (centerFits (c .center) (c .«num_qubits»)) (sized c) h in
+      let settings = settings-facts (c .«num_qubits») (c .«max_bond_dim») (c .«svd_epsilon») (c .«norm_clamp_min») (c .«workspace_exponent») (t .0) in
+      let most : c .«num_qubits» ≤ 64 = settings .qubits .1 in
+      let z = sized-facts (t .6) in
+      record {
+        settings = settings;
+        high-water = within-range 1 (c .«max_bond_dim») (c .«bond_high_water») (t .1);
+        bonds = bonds-facts c most z (t .2);
+        sites = undone-facts (c .«num_qubits») (c .«logical_to_site») (c .«site_to_logical») most (z .sites) (t .3);
+        qubits = undone-facts (c .«num_qubits») (c .«site_to_logical») (c .«logical_to_site») most (z .qubits) (t .4);
+        centre = centre-facts (c .center) (c .«num_qubits») (t .5);
+        sizes = z;
+      }
+
+  pub facts-sound : Sound c → T (sound c)
+  unfolding sound
+  facts-sound h =
+      of-seven settingsTest waterTest (bondsFit c) sitesTest qubitsTest (centerFits (c .center) (c .«num_qubits»)) (sized c)
+      (facts-settings (c .«num_qubits») (c .«max_bond_dim») (c .«svd_epsilon») (c .«norm_clamp_min») (c .«workspace_exponent») (h .settings))
+      (range-within 1 (c .«max_bond_dim») (c .«bond_high_water») (h .high-water))
+      (facts-bonds c (h .bonds))
+      (facts-undone (c .«num_qubits») (c .«logical_to_site») (c .«site_to_logical») (h .sites))
+      (facts-undone (c .«num_qubits») (c .«site_to_logical») (c .«logical_to_site») (h .qubits))
+      (facts-centre (c .center) (c .«num_qubits») (h .centre))
+      (facts-sized (h .sizes))
