@@ -22,6 +22,7 @@ pub mod Machine
 -- ---- Statements of the buyer's demands, each short.
 pub mod Demand1Sound
 pub mod Demand3
+pub mod Factorings
 -- ---- Laws and proofs.
 pub mod SoundFacts
 pub mod QrRank
@@ -36,3 +37,10 @@ pub mod UnitCut
 pub mod UnitMoves
 pub mod UnitSites
 pub mod UnitGates
+pub mod ColumnLaws
+pub mod JacobiLaws
+pub mod FloatOrder
+pub mod Counting
+pub mod OrderLaws
+pub mod SvdLaws
+pub mod QrLaws
