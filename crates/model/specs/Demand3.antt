@@ -1,13 +1,13 @@
 -- DEMAND 3. On a fresh chain of two or more qubits with workspace exponent 5 or more, every list of calls whose gates only move bits and phases answers as the
 -- bits-and-phase machine does, and leaves the chain following it. Statements only; `ListUnit.antt` and `Product.antt` prove them.
-use Prim.Native.Nat.{ℕ, _+_, _*_, _-_, _≤_, _<_}
+use Prim.Native.Nat.{ℕ, _+_, _-_, _≤_, _<_}
 use mathlib.Core.Path.{_≡_}
-use mathlib.Core.Bool.{Bool, true, false, not, cond}
+use mathlib.Core.Bool.{Bool, not, cond}
 use mathlib.Core.List.{List, [], _∷_, _++_}
 use lib.Dec.{T}
 use lib.ListN.{length}
 use lib.Ieee.{Float, binary64, fits}
-use Rattle.complex.specs.Complex.{mulC, addC, isZero, zeroF, oneF, zeroC}
+use Rattle.complex.specs.Complex.{mulC, isZero, zeroF, oneF, zeroC}
 use Rattle.complex.specs.Loops.{each, sumC}
 use Rattle.complex.specs.declared.Complex.{Complex}
 use Rattle.gates.specs.Gate.{entry, gateOf}
@@ -17,10 +17,12 @@ use Rattle.model.specs.declared.Projected.the-variants as projected
 use Rattle.model.specs.Chain.{bondLeft, bondRight, siteOf, qubitAt}
 use Rattle.model.specs.Slots.{State, held, workRoom, siteAt, amplitude}
 use Rattle.model.specs.Born.{bitOf, weightAt, readied}
-use Rattle.model.specs.Phases.{Phase, phaseC, equals}
+use Rattle.model.specs.Phases.{phaseC, equals}
 use Rattle.model.specs.Calls.{startCall, projectCall}
-use Rattle.model.specs.Lists.{Call, gate, named, project, measure, reset, finalState, answersOf}
-use Rattle.model.specs.Machine.{Machine, fresh, refusal, machineAnswers, machineAfter, allAllowed}
+use Rattle.gates.specs.declared.NamedGate.{NamedGate}
+use Rattle.model.specs.Answers.{accepted, none}
+use Rattle.model.specs.Lists.{Call, gate, named, project, measure, reset, answerOf, stateOf, finalState, answersOf}
+use Rattle.model.specs.Machine.{Machine, fresh, machineAnswers, machineAfter, allAllowed}
 
 -- ---- what the program's types say: each f64 handed in is a value of binary64
 
@@ -44,21 +46,22 @@ AllF64 (c ∷ cs) = F64s c × AllF64 cs
 abbrev pub entryAt : State → ℕ → Bool → Complex
 entryAt s k b = amplitude (siteAt s k) 1 0 (bitOf b) 0
 
--- the entries at the machine's bits, multiplied from site 0 up
-abbrev pub product : State → (ℕ → Bool) → Complex
-product s bits =
+-- the entries of n sites at the machine's bits, multiplied from site 0 up
+abbrev pub product : ℕ → State → (ℕ → Bool) → Complex
+product n s bits =
     let f : ℕ → Complex = λ k. entryAt s k (bits (qubitAt (s .chain) k)) in
-    each (s .chain .«num_qubits» - 1) (λ k z. mulC z (f (k + 1))) (f 0)
+    each (n - 1) (λ k z. mulC z (f (k + 1))) (f 0)
 
-pub record Follows (s : State) (M : Machine) : Type 0 where
-  pub bonds : (k : ℕ) → k < s .chain .«num_qubits» → (bondLeft (s .chain) k ≡ 1) × (bondRight (s .chain) k ≡ 1)
+-- n qubits and cap d, as the machine is fed them
+pub record Follows (n d : ℕ) (s : State) (M : Machine) : Type 0 where
+  pub bonds : (k : ℕ) → k < n → (bondLeft (s .chain) k ≡ 1) × (bondRight (s .chain) k ≡ 1)
   pub discarded : s .chain .«truncation_discarded» ≡ zeroF
-  pub phase : T (equals (product s (M .bits)) (phaseC (M .phase)))
-  pub others : (k : ℕ) → k < s .chain .«num_qubits» → T (isZero (entryAt s k (not (M .bits (qubitAt (s .chain) k)))))
+  pub phase : T (equals (product n s (M .bits)) (phaseC (M .phase)))
+  pub others : (k : ℕ) → k < n → T (isZero (entryAt s k (not (M .bits (qubitAt (s .chain) k)))))
   -- the Born weights that an accepted projection of qubit q would find next
-  pub weights : (q : ℕ) → q < s .chain .«num_qubits» → (b : Bool) →
+  pub weights : (q : ℕ) → q < n → (b : Bool) →
       (let k = siteOf (s .chain) q in weightAt k b (readied k s)) ≡ cond (mathlib.Core.Bool.Bool·beq b (M .bits q)) oneF zeroF
-  pub nothing : (q : ℕ) → q < s .chain .«num_qubits» → (work : List Float) → workRoom (s .chain .«max_bond_dim») ≤ length work →
+  pub nothing : (q : ℕ) → q < n → (work : List Float) → workRoom d ≤ length work →
       projectCall s work q (not (M .bits q)) .answer ≡ projected.Nothing
 
 -- ---- the claim about a list, from an accepted start's record and store
@@ -71,4 +74,33 @@ Demand3 =
     st .answer ≡ answer.Done
     → (calls : List Call) → AllF64 calls → T (allAllowed n d (length store) calls)
     → (let s = held (st .chain) (st .store) in
-    (answersOf calls s ≡ machineAnswers n d (length store) calls fresh) × Follows (finalState calls s) (machineAfter n d (length store) calls fresh)))
+    (answersOf calls s ≡ machineAnswers n d (length store) calls fresh) × Follows n d (finalState calls s) (machineAfter n d (length store) calls fresh)))
+
+-- ---- the claim about two gates in a list and their product in their place
+
+-- the matrix product, each sum from +0 up
+abbrev pub matrixProduct : List (List Complex) → List (List Complex) → List (List Complex)
+matrixProduct a b = gateOf (λ r c. sumC 4 (λ k. mulC (entry a r k) (entry b k c)) zeroC)
+
+-- a call is a gate on the ordered pair q0, q1, by matrix or by name, and this is its matrix
+pub data GateOn (q0 q1 : ℕ) : Call → List (List Complex) → Type 0 where
+  by-matrix : (g : List (List Complex)) (work : List Float) → GateOn q0 q1 (gate q0 q1 g work) g
+  by-name : (name : NamedGate) (work : List Float) → GateOn q0 q1 (named q0 q1 name work) (matrixOf name)
+
+-- Wherever two accepted gates on one ordered pair stand next to each other, the product of their matrices, the later gate's on the left, accepted in their place:
+-- the calls before are given the same chain, the calls after answer alike, and both chains end following one machine.
+unfoldable pub ProductClause : Type 0
+ProductClause =
+    (n d exponent : ℕ) (epsilon clamp : Float) (store : List Float) → F64 epsilon → F64 clamp
+    → 2 ≤ n → 5 ≤ exponent
+    → (let st = startCall n d epsilon clamp exponent store in
+    st .answer ≡ answer.Done
+    → (q0 q1 : ℕ) (c1 c2 : Call) (m1 m2 : List (List Complex)) → GateOn q0 q1 c1 m1 → GateOn q0 q1 c2 m2
+    → (before after : List Call) → (let calls = before ++ (c1 ∷ c2 ∷ after) in
+    AllF64 calls → T (allAllowed n d (length store) calls)
+    → (work : List Float) → (let c12 = gate q0 q1 (matrixProduct m2 m1) work in
+    let s = held (st .chain) (st .store) in
+    let t = finalState before s in
+    answerOf c1 t ≡ accepted none → answerOf c2 (stateOf c1 t) ≡ accepted none → answerOf c12 t ≡ accepted none
+    → (let M = machineAfter n d (length store) calls fresh in
+    (answersOf after (stateOf c2 (stateOf c1 t)) ≡ answersOf after (stateOf c12 t)) × Follows n d (finalState calls s) M × Follows n d (finalState (before ++ (c12 ∷ after)) s) M))))

@@ -21,6 +21,7 @@ pub mod Lists
 pub mod Machine
 -- ---- Statements of the buyer's demands, each short.
 pub mod Demand1Sound
+pub mod Demand1Cuts
 pub mod Demand3
 pub mod Factorings
 -- ---- Laws and proofs.
@@ -44,3 +45,19 @@ pub mod Counting
 pub mod OrderLaws
 pub mod SvdLaws
 pub mod QrLaws
+pub mod MoveFrame
+pub mod CallFrame
+pub mod CutCases
+pub mod CutShares
+pub mod BondsShrink
+pub mod RunFit
+pub mod CutStops
+pub mod RouteLabels
+pub mod CutLaws
+pub mod CallLabels
+pub mod Demand1CutsProof
+pub mod Tracked
+pub mod Following
+pub mod ListUnit
+pub mod Product
+pub mod Sample

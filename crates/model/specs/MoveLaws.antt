@@ -156,7 +156,7 @@ module _ (s : State) (h : Sound (s .chain)) (k : ℕ) (inside : k + 1 < s .chain
 -- ---- one site, and two, written into their slots
 
 -- xs filled up to n numbers has n
-length-filled : (n : ℕ) (xs : List Float) → length xs ≤ n → length (filled n xs) ≡ n
+pub length-filled : (n : ℕ) (xs : List Float) → length xs ≤ n → length (filled n xs) ≡ n
 unfolding filled
 length-filled n xs h = simp (length-append, length-replicate) (omega arith)
 

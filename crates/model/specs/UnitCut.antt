@@ -49,7 +49,7 @@ theta-value true false true true u v = refl
 theta-value true true true false u v = refl
 theta-value true true true true u v = refl
 
-moved-value : (a b i j : Bool) (u v : Phase) → times (spot a b i j (unit u)) (unit v) ≡ spot a b i j (unit (u ⊗ v))
+pub moved-value : (a b i j : Bool) (u v : Phase) → times (spot a b i j (unit u)) (unit v) ≡ spot a b i j (unit (u ⊗ v))
 moved-value false false false false u v = refl
 moved-value false false false true u v = refl
 moved-value false true false false u v = refl
@@ -61,11 +61,11 @@ moved-value true false true true u v = refl
 moved-value true true true false u v = refl
 moved-value true true true true u v = refl
 
-abbrev summed : (Bool → Bool → Complex) → (Bool → Bool → Complex) → Complex
+abbrev pub summed : (Bool → Bool → Complex) → (Bool → Bool → Complex) → Complex
 summed g t = addC (addC (addC (addC zeroC (mulC (g false false) (t false false))) (mulC (g false true) (t false true))) (mulC (g true false) (t true false))) (mulC (g true true) (t true true))
 
 -- four products, added in turn, of which one alone is no zero
-summed-is : (g t : Bool → Bool → Complex) (w : Bool → Bool → Value) (a b : Bool) (x : Value) → ((i j : Bool) → Is (g i j) (w i j)) → ((i j : Bool) → Is (t i j) (spot a b i j x))
+pub summed-is : (g t : Bool → Bool → Complex) (w : Bool → Bool → Value) (a b : Bool) (x : Value) → ((i j : Bool) → Is (g i j) (w i j)) → ((i j : Bool) → Is (t i j) (spot a b i j x))
     → Is (summed g t) (times (w a b) x)
 summed-is g t w false false x p q =
     add-nought (add-nought (add-nought (nought-add zero-nought (is-mul (p false false) (q false false))) (mul-nought (p false true) (q false true))) (mul-nought (p true false) (q true false))) (mul-nought (p true true) (q true true))
