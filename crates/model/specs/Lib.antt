@@ -1,4 +1,4 @@
--- ---- Definitions: what a reader must believe, leaves first.
+-- Definitions: what a reader must believe, leaves first.
 pub mod Chain
 pub mod Slots
 pub mod Columns
@@ -19,45 +19,6 @@ pub mod Calls
 pub mod Phases
 pub mod Lists
 pub mod Machine
--- ---- Statements of the buyer's demands, each short.
-pub mod Demand1Sound
-pub mod Demand1Cuts
-pub mod Demand3
-pub mod Factorings
--- ---- Laws and proofs.
-pub mod SoundFacts
-pub mod QrRank
-pub mod SoundChanges
-pub mod MoveLaws
-pub mod SoundKept
-pub mod SecondCut
-pub mod Units
-pub mod UnitFloats
-pub mod UnitSvd
-pub mod UnitCut
-pub mod UnitMoves
-pub mod UnitSites
-pub mod UnitGates
-pub mod ColumnLaws
-pub mod JacobiLaws
-pub mod FloatOrder
-pub mod Counting
-pub mod OrderLaws
-pub mod SvdLaws
-pub mod QrLaws
-pub mod MoveFrame
-pub mod CallFrame
-pub mod CutCases
-pub mod CutShares
-pub mod BondsShrink
-pub mod RunFit
-pub mod CutStops
-pub mod RouteLabels
-pub mod CutLaws
-pub mod CallLabels
-pub mod Demand1CutsProof
-pub mod Tracked
-pub mod Following
-pub mod ListUnit
-pub mod Product
-pub mod Sample
+-- What is proved of them, and the proofs.
+pub mod Statements
+pub mod Laws

@@ -1,0 +1,202 @@
+-- The cut element by element: Θ as a sum over the middle bond, the gate on it, the matrix and its conjugate transpose, the four site fills, and the new bond.
+-- (Vidal 2003, equations 8 to 12; Schollwöck 2011, 4.3.1 and 7.1.)
+use Prim.Native.Nat.{ℕ, _+_, _*_, _≤_, _<_}
+use mathlib.Core.Path.{_≡_, refl, ap, _∙_}
+use mathlib.Core.List.{List}
+use native.Mathlib.Omega.{arith}
+use lib.ListN.{length}
+use lib.Seq.{getD-set-same}
+use lib.Ieee.{Float}
+use Rattle.complex.specs.Complex.{addC, mulC, conjC, scaleC, real, zeroC}
+use Rattle.complex.specs.Loops.{each, sumC}
+use Rattle.complex.specs.Numbers.{at, numbers, length-numbers, at-numbers}
+use Rattle.complex.specs.Matrix.{rows, cell-below, length-rows, at-rows}
+use Rattle.complex.specs.declared.Complex.{Complex}
+use Rattle.gates.specs.Gate.{entry}
+use Rattle.model.specs.declared.Chain.{Chain}
+use Rattle.model.specs.Chain.{bondLeft, bondRight}
+use Rattle.model.specs.Slots.{State, amplitude}
+use Rattle.model.specs.Svd.{svd, values}
+use Rattle.model.specs.Truncation.{rank}
+use Rattle.model.specs.Cut.{Ran, adjacent}
+use Rattle.model.specs.Laws.CutCases.{Ends, over, overAgain, nan, stored, ends, ready, rankOf, cutSvd, cutDone, ready-keeps}
+use Rattle.model.specs.Laws.MoveFrame.{epsilon-fixed, cap-fixed}
+use Rattle.model.specs.Laws.BondsShrink.{Fit}
+use Rattle.model.specs.Laws.RunFit.{ready-shrinks}
+use Rattle.model.specs.Pair.{theta, gated, gatedTheta, matrixOf, adjointOf, pairSvd, isometrySite, scaledSite, vtSite, scaledVtSite}
+
+-- ---- formulas
+
+-- Θ(a, i, j, b) = Σ_g left(a, i, g) right(g, j, b), added from g = 0 up
+pub theta-sum : (mid br : ℕ) (left right : List Float) (a i j b : ℕ)
+    → theta mid br left right a i j b ≡ sumC mid (λ g. mulC (amplitude left mid a i g) (amplitude right br g j b)) zeroC
+theta-sum mid br left right a i j b = refl
+
+-- (UΘ)(i, j) = Σ U(2 i + j, 2 i' + j') Θ(i', j') over i' and j', added in the order 00, 01, 10, 11
+pub gated-sum : (gate : List (List Complex)) (th : ℕ → ℕ → Complex) (i j : ℕ)
+    → (let u : ℕ → Complex = entry gate (i * 2 + j) in
+    gated gate th i j ≡ addC (addC (addC (addC zeroC (mulC (u 0) (th 0 0))) (mulC (u 1) (th 0 1))) (mulC (u 2) (th 1 0))) (mulC (u 3) (th 1 1)))
+unfolding each
+gated-sum gate th i j = refl
+
+-- the cut decomposes the matrix of the gate on Θ, of 2 bl rows and 2 br columns
+pub pair-svd : (clamp : Float) (bl mid br : ℕ) (gate : List (List Complex)) (left right : List Float)
+    → (let th = gatedTheta gate mid br left right in pairSvd clamp bl mid br gate left right ≡ svd clamp (2 * bl) (2 * br) (matrixOf bl br th) (adjointOf bl br th))
+unfolding pairSvd
+pair-svd clamp bl mid br gate left right = refl
+
+-- ---- the matrix, by columns: row 2 a + i and column j * br + b hold th a i j b
+
+module _ (bl br : ℕ) (th : ℕ → ℕ → ℕ → ℕ → Complex) where
+  -- one column's length, and that of the columns of one j
+  column-length : (j b : ℕ) → length (rows bl (λ a. numbers 2 (λ i. th a i j b))) ≡ 2 * (bl * 2)
+  column-length j b = length-rows 2 _ (λ a. length-numbers 2 (λ i. th a i j b)) bl
+
+  half-length : (j : ℕ) → length (rows br (λ b. rows bl (λ a. numbers 2 (λ i. th a i j b)))) ≡ 2 * (br * (bl * 2))
+  half-length j = length-rows (bl * 2) _ (column-length j) br
+
+  pub length-matrixOf : length (matrixOf bl br th) ≡ 2 * (2 * br * (2 * bl))
+  unfolding matrixOf
+  length-matrixOf = length-rows (br * (bl * 2)) _ half-length 2 ∙ omega arith
+
+  pub at-matrixOf : (a i j b : ℕ) → a < bl → i < 2 → j < 2 → b < br → at (matrixOf bl br th) ((j * br + b) * (2 * bl) + (2 * a + i)) ≡ th a i j b
+  unfolding matrixOf
+  at-matrixOf a i j b ha hi hj hb =
+      let row : a * 2 + i < bl * 2 = cell-below 2 bl a i hi ha in
+      let place : (j * br + b) * (2 * bl) + (2 * a + i) ≡ j * (br * (bl * 2)) + (b * (bl * 2) + (a * 2 + i)) = omega arith in
+      rw place
+      (at-rows (br * (bl * 2)) _ half-length 2 j (b * (bl * 2) + (a * 2 + i)) hj (cell-below (bl * 2) br b (a * 2 + i) row hb)
+      ∙ at-rows (bl * 2) _ (column-length j) br b (a * 2 + i) hb row
+      ∙ at-rows 2 _ (λ a. length-numbers 2 (λ i. th a i j b)) bl a i ha hi
+      ∙ at-numbers 2 (λ i. th a i j b) i hi)
+
+  -- its conjugate transpose, by columns: row j * br + b and column 2 a + i hold the conjugate of th a i j b
+
+  part-length : (a i : ℕ) → length (rows 2 (λ j. numbers br (λ b. conjC (th a i j b)))) ≡ 2 * (2 * br)
+  part-length a i = length-rows br _ (λ j. length-numbers br (λ b. conjC (th a i j b))) 2
+
+  pair-length : (a : ℕ) → length (rows 2 (λ i. rows 2 (λ j. numbers br (λ b. conjC (th a i j b))))) ≡ 2 * (2 * (2 * br))
+  pair-length a = length-rows (2 * br) _ (part-length a) 2
+
+  pub length-adjointOf : length (adjointOf bl br th) ≡ 2 * (2 * bl * (2 * br))
+  unfolding adjointOf
+  length-adjointOf = length-rows (2 * (2 * br)) _ pair-length bl ∙ omega arith
+
+  pub at-adjointOf : (a i j b : ℕ) → a < bl → i < 2 → j < 2 → b < br → at (adjointOf bl br th) ((2 * a + i) * (2 * br) + (j * br + b)) ≡ conjC (th a i j b)
+  unfolding adjointOf
+  at-adjointOf a i j b ha hi hj hb =
+      let row : j * br + b < 2 * br = cell-below br 2 j b hb hj in
+      let place : (2 * a + i) * (2 * br) + (j * br + b) ≡ a * (2 * (2 * br)) + (i * (2 * br) + (j * br + b)) = omega arith in
+      rw place
+      (at-rows (2 * (2 * br)) _ pair-length bl a (i * (2 * br) + (j * br + b)) ha (cell-below (2 * br) 2 i (j * br + b) row hi)
+      ∙ at-rows (2 * br) _ (part-length a) 2 i (j * br + b) hi row
+      ∙ at-rows br _ (λ j. length-numbers br (λ b. conjC (th a i j b))) 2 j b hj hb
+      ∙ at-numbers br (λ b. conjC (th a i j b)) b hb)
+
+-- ---- the element that a cut decomposes, in full: the gate's row 2 i + j times the four sums Θ(a, i', j', b)
+
+module _ (gate : List (List Complex)) (bl mid br : ℕ) (left right : List Float) (a i j b : ℕ) (ha : a < bl) (hi : i < 2) (hj : j < 2) (hb : b < br) where
+  -- Θ(a, i', j', b) read off the two sites
+  abbrev sum : ℕ → ℕ → Complex
+  sum i' j' = sumC mid (λ g. mulC (at left (a * (2 * mid) + i' * mid + g)) (at right (g * (2 * br) + j' * br + b))) zeroC
+
+  abbrev u : ℕ → Complex
+  u c = entry gate (i * 2 + j) c
+
+  abbrev element : Complex
+  element = addC (addC (addC (addC zeroC (mulC (u 0) (sum 0 0))) (mulC (u 1) (sum 0 1))) (mulC (u 2) (sum 1 0))) (mulC (u 3) (sum 1 1))
+
+  pub pair-element : at (matrixOf bl br (gatedTheta gate mid br left right)) ((j * br + b) * (2 * bl) + (2 * a + i)) ≡ element
+  pair-element = at-matrixOf bl br (gatedTheta gate mid br left right) a i j b ha hi hj hb ∙ gated-sum gate sum i j
+
+  pub pair-element-adjoint : at (adjointOf bl br (gatedTheta gate mid br left right)) ((2 * a + i) * (2 * br) + (j * br + b)) ≡ conjC element
+  pair-element-adjoint = at-adjointOf bl br (gatedTheta gate mid br left right) a i j b ha hi hj hb ∙ ap conjC (gated-sum gate sum i j)
+
+-- ---- the four fills, by amplitude
+
+-- rows of numbers
+row-length : (n m : ℕ) (f : ℕ → ℕ → Complex) → length (rows n (λ r. numbers m (f r))) ≡ 2 * (n * m)
+row-length n m f = length-rows m (λ r. numbers m (f r)) (λ r. length-numbers m (f r)) n
+
+row-at : (n m : ℕ) (f : ℕ → ℕ → Complex) (r c : ℕ) → r < n → c < m → at (rows n (λ r. numbers m (f r))) (r * m + c) ≡ f r c
+row-at n m f r c hr hc = at-rows m (λ r. numbers m (f r)) (λ r. length-numbers m (f r)) n r c hr hc ∙ at-numbers m (f r) c hc
+
+-- a site of 2 bl rows: left index a and bit i at row 2 a + i
+left-amplitude : (bl chi : ℕ) (f : ℕ → ℕ → Complex) (a i g : ℕ) → a < bl → i < 2 → g < chi → amplitude (rows (2 * bl) (λ r. numbers chi (f r))) chi a i g ≡ f (2 * a + i) g
+left-amplitude bl chi f a i g ha hi hg =
+    let place : a * (2 * chi) + i * chi + g ≡ (2 * a + i) * chi + g = omega arith in
+    rw place (row-at (2 * bl) chi f (2 * a + i) g (omega arith) hg)
+
+-- a site of chi rows: bit j and right index b at column j * br + b
+right-amplitude : (chi br : ℕ) (f : ℕ → ℕ → Complex) (g j b : ℕ) → g < chi → j < 2 → b < br → amplitude (rows chi (λ g. numbers (2 * br) (f g))) br g j b ≡ f g (j * br + b)
+right-amplitude chi br f g j b hg hj hb =
+    let place : g * (2 * br) + j * br + b ≡ g * (2 * br) + (j * br + b) = omega arith in
+    rw place (row-at chi (2 * br) f g (j * br + b) hg (cell-below br 2 j b hb hj))
+
+module _ (bl chi : ℕ) (u : ℕ → ℕ → Complex) where
+  pub length-isometrySite : length (isometrySite bl chi u) ≡ 2 * (2 * bl * chi)
+  unfolding isometrySite
+  length-isometrySite = row-length (2 * bl) chi u
+
+  pub isometry-amplitude : (a i g : ℕ) → a < bl → i < 2 → g < chi → amplitude (isometrySite bl chi u) chi a i g ≡ u (2 * a + i) g
+  unfolding isometrySite
+  isometry-amplitude = left-amplitude bl chi u
+
+  pub length-scaledSite : (s : ℕ → Float) → length (scaledSite bl chi u s) ≡ 2 * (2 * bl * chi)
+  unfolding scaledSite
+  length-scaledSite s = row-length (2 * bl) chi (λ r g. scaleC (u r g) (s g))
+
+  pub scaled-amplitude : (s : ℕ → Float) (a i g : ℕ) → a < bl → i < 2 → g < chi → amplitude (scaledSite bl chi u s) chi a i g ≡ scaleC (u (2 * a + i) g) (s g)
+  unfolding scaledSite
+  scaled-amplitude s = left-amplitude bl chi (λ r g. scaleC (u r g) (s g))
+
+module _ (chi br : ℕ) (vt : ℕ → ℕ → Complex) where
+  pub length-vtSite : length (vtSite chi br vt) ≡ 2 * (chi * (2 * br))
+  unfolding vtSite
+  length-vtSite = row-length chi (2 * br) vt
+
+  pub vt-amplitude : (g j b : ℕ) → g < chi → j < 2 → b < br → amplitude (vtSite chi br vt) br g j b ≡ vt g (j * br + b)
+  unfolding vtSite
+  vt-amplitude = right-amplitude chi br vt
+
+  pub length-scaledVtSite : (s : ℕ → Float) → length (scaledVtSite chi br vt s) ≡ 2 * (chi * (2 * br))
+  unfolding scaledVtSite
+  length-scaledVtSite s = row-length chi (2 * br) (λ g c. mulC (real (s g)) (vt g c))
+
+  pub scaled-vt-amplitude : (s : ℕ → Float) (g j b : ℕ) → g < chi → j < 2 → b < br → amplitude (scaledVtSite chi br vt s) br g j b ≡ mulC (real (s g)) (vt g (j * br + b))
+  unfolding scaledVtSite
+  scaled-vt-amplitude s = right-amplitude chi br (λ g c. mulC (real (s g)) (vt g c))
+
+-- ---- the new bond is the rank that the rule keeps, in the records of both sites
+
+pub rank-most : (epsilon : Float) (most : ℕ) (s : List Float) → rank epsilon most s ≤ most
+unfolding rank
+rank-most epsilon most s = omega arith
+
+-- the bond between sites k and k + 1 is b
+abbrev pub Bond : Chain → ℕ → ℕ → Type 0
+Bond c k b = (bondRight c k ≡ b) × (bondLeft c (k + 1) ≡ b)
+
+pub done-bond : (gate : List (List Complex)) (k : ℕ) (s : State) → Fit (s .chain) → k + 1 < s .chain .«num_qubits» → Bond (cutDone gate k s .chain) k (rankOf s (cutSvd gate k s))
+unfolding cutDone
+done-bond gate k s f h =
+    let p = ready gate k s in
+    let d = cutSvd gate k s in
+    let x = ready-shrinks gate k s f h in
+    let l : k + 1 < p .state .chain .«num_qubits» = rw (x .qubits) h in
+    let a : p .state .chain .«num_qubits» ≤ length (p .state .chain .«bond_right») = x .fit .long-right in
+    let b : p .state .chain .«num_qubits» ≤ length (p .state .chain .«bond_left») = x .fit .long-left in
+    let e : rankOf (p .state) d ≡ rankOf s d = λ i. rank (ready-keeps _ epsilon-fixed gate k s i) (ready-keeps _ cap-fixed gate k s i) (values d) in (
+      getD-set-same (p .state .chain .«bond_right») k (rankOf (p .state) d) 0 (omega arith) ∙ e,
+      getD-set-same (p .state .chain .«bond_left») (k + 1) (rankOf (p .state) d) 0 (omega arith) ∙ e,
+    )
+
+pub cut-bond : (gate : List (List Complex)) (k : ℕ) (s : State) → Fit (s .chain) → k + 1 < s .chain .«num_qubits» → adjacent gate k s .refused ≡ 0
+    → Bond (adjacent gate k s .state .chain) k (rankOf s (cutSvd gate k s))
+cut-bond gate k s f h = by-end (adjacent gate k s) (ends gate k s)
+  where
+    by-end : (r : Ran) → Ends gate k s r → r .refused ≡ 0 → Bond (r .state .chain) k (rankOf s (cutSvd gate k s))
+    by-end r (over w) z = absurd (omega arith)
+    by-end r (overAgain u v w) z = absurd (omega arith)
+    by-end r (nan v w) z = absurd (omega arith)
+    by-end r (stored v w) z = done-bond gate k s f h

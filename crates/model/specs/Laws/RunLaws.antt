@@ -1,0 +1,340 @@
+-- What moves, cuts and readings leave of the store: the sites that they do not rewrite keep their whole slots, and numbers past the slots are unchanged.
+use Prim.Native.Nat.{ℕ, zero, suc, _+_, _-_, _*_, _≤_, _<_, min, max}
+use native.Mathlib.Omega.{arith}
+use native.Mathlib.Nat.{mul-le-mul}
+use mathlib.Core.Path.{_≡_, refl, sym, ap, _∙_, subst}
+use mathlib.Core.Logic.{inl, inr, _≢_}
+use mathlib.Core.Bool.{Bool, true, false, cond}
+use mathlib.Core.List.{List, [], _∷_, _++_, map}
+use lib.Dec.{leb, eqb}
+use lib.ListN.{length}
+use lib.Ieee.{Float, le}
+use Rattle.complex.specs.Numbers.{numbers, length-numbers}
+use Rattle.complex.specs.Matrix.{rows, length-rows}
+use Rattle.complex.specs.declared.Complex.{Complex}
+use Rattle.model.specs.declared.Center.{Center}
+use Rattle.model.specs.declared.Center.the-variants.{Unknown, At}
+use Rattle.model.specs.declared.Chain.{Chain}
+use Rattle.model.specs.declared.WeightSide.{WeightSide}
+use Rattle.model.specs.declared.WeightSide.the-variants.{Left, Right}
+use Rattle.model.specs.Slots.{State, held, lefts, rights, slotRoom, storeRoom, withSite}
+use Rattle.model.specs.Svd.{Svd, values}
+use Rattle.model.specs.Pair.{isometrySite, scaledSite, vtSite, scaledVtSite, leftSite, rightSite}
+use Rattle.model.specs.Moves.{moved, established, centeredOn, Prepared, prepared, preparedOn}
+use Rattle.model.specs.Cut.{cutStored, Ran, ran, adjacent, weightSite}
+use Rattle.model.specs.Born.{weightAt, projectedSite, resetSite, projectedAt, resetAt, readied}
+use Rattle.model.specs.Laws.SoundFacts.{Sound}
+use Rattle.model.specs.Laws.QrRank.{cut-rank-most}
+use Rattle.model.specs.Laws.MoveLaws.{Apart, apart-none, apart-then, site-apart, pair-apart, rows-fit, wide-rows-fit, moved-narrowed, moved-apart, moved-centre, established-narrowed, established-apart, established-centre}
+use Rattle.model.specs.Laws.SoundKept.{Keeps, keeps-none, keeps-then, narrowed-keeps}
+use Rattle.model.specs.Laws.SoundKept.{adjacent-keeps, stepped-keeps, Inside}
+use Rattle.model.specs.Statements.Table.{keepsCentre, preparedFor, pairOf}
+use Rattle.model.specs.Laws.CutGrounds.{either-way, unprepared, rankOf, cutAt, MadeIn, CutMade, above, first-nan, second-nan, stored, no-centre, adjacent-made, established-narrow, relabelledBy}
+use Rattle.model.specs.Routing.{Step, downTo, routeOf, swapStep, stepsOf, stepped, runSteps}
+
+-- ---- a state that rewrites the sites from lo to hi alone
+
+-- the store is long enough for the chain's sites
+abbrev pub Room : State → Type 0
+Room s = storeRoom (s .chain .«num_qubits») (s .chain .«max_bond_dim») ≤ length (s .store)
+
+-- the centre lies from lo to hi; where none is recorded, every site does
+abbrev pub Reach : ℕ → ℕ → ℕ → Center → Type 0
+Reach n lo hi Unknown = (lo ≡ 0) × (n ≤ hi + 1)
+Reach n lo hi (At k) = (lo ≤ k) × (k ≤ hi)
+
+pub record Within (lo hi : ℕ) (s t : State) : Type 0 where
+  pub keeps : Keeps (s .chain) (t .chain)
+  pub apart : Apart (s .chain .«num_qubits») (s .chain .«max_bond_dim») lo hi (s .store) (t .store)
+  pub reach : Reach (s .chain .«num_qubits») lo hi (t .chain .center)
+
+-- the same stores, the chain's size and cap being written otherwise
+pub apart-as : {n d n′ d′ lo hi : ℕ} {x y : List Float} → n ≡ n′ → d ≡ d′ → Apart n d lo hi x y → Apart n′ d′ lo hi x y
+apart-as en ed a = rw (en, ed) at a
+
+module _ {lo hi : ℕ} {s t : State} (x : Within lo hi s t) where
+  pub within-room : Room s → Room t
+  within-room room = rw (x .keeps .qubits, x .keeps .cap, x .apart .long) room
+
+  pub within-reach : Reach (t .chain .«num_qubits») lo hi (t .chain .center)
+  within-reach = rw (x .keeps .qubits) (x .reach)
+
+  pub within-then : {u : State} → Within lo hi t u → Within lo hi s u
+  within-then y = record {
+    keeps = keeps-then (x .keeps) (y .keeps);
+    apart = apart-then lo hi (omega arith) (omega arith) (omega arith) (omega arith) (x .apart) (apart-as (x .keeps .qubits) (x .keeps .cap) (y .apart));
+    reach = rw (x .keeps .qubits) at (y .reach);
+  }
+
+-- a range within a range
+widened : {n d lo hi lo′ hi′ : ℕ} {x y : List Float} → lo ≤ lo′ → hi′ ≤ hi → Apart n d lo′ hi′ x y → Apart n d lo hi x y
+widened {n = n} {d = d} {lo = lo} {hi = hi} {y = y} l m a = apart-then lo hi l m (omega arith) (omega arith) a (apart-none n d lo hi y)
+
+pub within-none : (lo hi : ℕ) (s : State) → Sound (s .chain) → Reach (s .chain .«num_qubits») lo hi (s .chain .center) → Within lo hi s s
+within-none lo hi s h r = record { keeps = keeps-none (s .chain) h; apart = apart-none _ _ lo hi (s .store); reach = r }
+
+-- ---- moves
+
+module _ (s : State) (h : Sound (s .chain)) (room : Room s) where
+  moved-within : (lo hi from to : ℕ) → from < s .chain .«num_qubits» → to < s .chain .«num_qubits» → lo ≤ from → from ≤ hi → lo ≤ to → to ≤ hi → Within lo hi s (moved from to s)
+  moved-within lo hi from to hf ht a b c d = record {
+    keeps = narrowed-keeps (moved-narrowed from to s h hf ht);
+    apart = widened (omega arith) (omega arith) (moved-apart from to s h hf ht room);
+    reach = rw (moved-centre from to s) (c, d);
+  }
+
+  pub established-within : (lo hi to : ℕ) → to < s .chain .«num_qubits» → lo ≡ 0 → s .chain .«num_qubits» ≤ hi + 1 → Within lo hi s (established to s)
+  established-within lo hi to ht a b = record {
+    keeps = narrowed-keeps (established-narrowed to s h ht);
+    apart = widened (omega arith) (omega arith) (established-apart to s h ht room);
+    reach = rw (established-centre to s) (omega arith, omega arith);
+  }
+
+  module _ (lo hi : ℕ) where
+    centeredOn-within : (k : ℕ) → k < s .chain .«num_qubits» → lo ≤ k → k ≤ hi → (at : Center) → ((j : ℕ) → at ≡ At j → j < s .chain .«num_qubits») → Reach (s .chain .«num_qubits») lo hi at
+        → Within lo hi s (centeredOn k at s)
+    centeredOn-within k inside a b Unknown below r = established-within lo hi k inside (r .0) (r .1)
+    centeredOn-within k inside a b (At from) below r = moved-within lo hi from k (below from refl) inside (r .0) (r .1) a b
+
+    pub readied-within : (k : ℕ) → k < s .chain .«num_qubits» → lo ≤ k → k ≤ hi → Reach (s .chain .«num_qubits») lo hi (s .chain .center) → Within lo hi s (readied k s)
+    readied-within k inside a b r = centeredOn-within k inside a b (s .chain .center) (h .centre) r
+
+    module _ (k : ℕ) (inside : k + 1 < s .chain .«num_qubits») (a : lo ≤ k) (b : k + 1 ≤ hi) where
+      on-within : (at : Center) → ((j : ℕ) → at ≡ At j → j < s .chain .«num_qubits») → Reach (s .chain .«num_qubits») lo hi at → Within lo hi s (preparedOn k at s .state)
+      on-within Unknown below r = established-within lo hi k (omega arith) (r .0) (r .1)
+      on-within (At from) below r = pick (leb from k)
+        where
+          pick : (b : Bool) → Within lo hi s (cond b (prepared Right (moved from k s)) (prepared Left (moved from (k + 1) s)) .state)
+          pick true = moved-within lo hi from k (below from refl) (omega arith) (r .0) (r .1) a (omega arith)
+          pick false = moved-within lo hi from (k + 1) (below from refl) inside (r .0) (r .1) (omega arith) b
+
+      pub preparedOn-within : Reach (s .chain .«num_qubits») lo hi (s .chain .center) → Within lo hi s (preparedOn k (s .chain .center) s .state)
+      preparedOn-within r = on-within (s .chain .center) (h .centre) r
+
+-- ---- a cut
+
+leftSite-fits : (side : WeightSide) (cap bl chi : ℕ) (d : Svd) → bl ≤ cap → chi ≤ cap → length (leftSite side bl chi d) ≤ slotRoom cap
+unfolding isometrySite scaledSite
+leftSite-fits Left cap bl chi d a b = rows-fit cap bl chi _ a b
+leftSite-fits Right cap bl chi d a b = rows-fit cap bl chi _ a b
+
+rightSite-fits : (side : WeightSide) (cap chi br : ℕ) (d : Svd) → chi ≤ cap → br ≤ cap → length (rightSite side chi br d) ≤ slotRoom cap
+unfolding vtSite scaledVtSite
+rightSite-fits Left cap chi br d a b = wide-rows-fit cap chi br _ a b
+rightSite-fits Right cap chi br d a b = wide-rows-fit cap chi br _ a b
+
+module _ (s : State) (h : Sound (s .chain)) (room : Room s) (k : ℕ) (inside : k + 1 < s .chain .«num_qubits») (maintained : Bool) (side : WeightSide) (d : Svd) where
+  -- the two sites of a cut
+  pub cutStored-apart : (chi : ℕ) → chi ≤ s .chain .«max_bond_dim»
+      → Apart (s .chain .«num_qubits») (s .chain .«max_bond_dim») k (k + 1) (s .store) (cutStored k maintained side s d chi .store)
+  cutStored-apart chi most =
+      pair-apart (s .chain .«num_qubits») (s .chain .«max_bond_dim») k _ _ (s .store) inside room
+      (leftSite-fits side _ _ chi d (omega (arith, h .bonds .left-range k (omega arith) .1, h .high-water .1)) most)
+      (rightSite-fits side _ chi _ d most (omega (arith, h .bonds .right-range (k + 1) inside .1, h .high-water .1)))
+
+  pub cutStored-reach : (chi lo hi : ℕ) → lo ≤ k → k + 1 ≤ hi → Reach (s .chain .«num_qubits») lo hi (s .chain .center)
+      → Reach (s .chain .«num_qubits») lo hi (cutStored k maintained side s d chi .chain .center)
+  cutStored-reach chi lo hi a b r = pick maintained side
+    where
+      pick : (m : Bool) (w : WeightSide) → Reach (s .chain .«num_qubits») lo hi (cond m (At (weightSite w k)) (s .chain .center))
+      pick true Left = (a, omega arith)
+      pick true Right = (omega arith, b)
+      pick false w = r
+
+module _ (lo hi k : ℕ) (a : lo ≤ k) (b : k + 1 ≤ hi) where
+  -- with the centre on the pair, if it is kept
+  preparedFor-within : (s : State) → Sound (s .chain) → Room s → k + 1 < s .chain .«num_qubits» → Reach (s .chain .«num_qubits») lo hi (s .chain .center) → Within lo hi s (preparedFor k s .state)
+  preparedFor-within s h room inside r =
+      either-way (λ (p : Prepared). Within lo hi s (p .state)) (keepsCentre k s) _ _ (preparedOn-within s h room lo hi k inside a b r) (within-none lo hi s h r)
+
+  module _ (gate : List (List Complex)) (s : State) (h : Sound (s .chain)) (room : Room s) (inside : k + 1 < s .chain .«num_qubits») (r : Reach (s .chain .«num_qubits») lo hi (s .chain .center)) where
+    madeIn-within : (u : State) → MadeIn k s u → Within lo hi s u
+    madeIn-within u (inl e) = rw e (within-none lo hi s h r)
+    madeIn-within u (inr e) =
+        let z : Reach (s .chain .«num_qubits») lo hi Unknown = rw (e .0) at r in
+        rw (e .1) (established-within s h room lo hi k (omega arith) (z .0) (z .1))
+
+    ready-within : (u : State) → MadeIn k s u → Within lo hi s (preparedFor k u .state)
+    ready-within u m =
+        let x = madeIn-within u m in
+        within-then x (preparedFor-within u (x .keeps .sound) (within-room x room) (rw (x .keeps .qubits) inside) (within-reach x))
+
+    pub adjacent-within : Within lo hi s (adjacent gate k s .state)
+    adjacent-within = cases (adjacent-made gate k s (established-narrow k s h inside))
+      where
+        cases : CutMade gate k s (adjacent gate k s) → Within lo hi s (adjacent gate k s .state)
+        cases (above x e) = rw e (within-none lo hi s h r)
+        cases (first-nan x n e) = rw e (ready-within s (inl refl))
+        cases (second-nan x n e) = rw e (ready-within (established k s) (inr (no-centre k s (n .0 .0), refl)))
+        cases (stored x n n′ u m e) =
+            let y = ready-within u m in
+            let t = preparedFor k u .state in
+            let e′ : adjacent gate k s .state ≡ cutAt gate k u = ap (λ (r : Ran). r .state) e in
+            let inside′ : k + 1 < t .chain .«num_qubits» = rw (y .keeps .qubits) inside in
+            record {
+              keeps = adjacent-keeps gate k s h inside;
+              apart = rw e′ (apart-then lo hi (omega arith) (omega arith) (omega arith) (omega arith) (y .apart)
+                  (apart-as (y .keeps .qubits) (y .keeps .cap) (widened a b (cutStored-apart t (y .keeps .sound) (within-room y room) k inside′ (keepsCentre k u) (preparedFor k u .side) (pairOf gate k t) (rankOf gate k t) (cut-rank-most (t .chain .«svd_epsilon») (t .chain .«max_bond_dim») (values (pairOf gate k t)))))));
+              reach = rw (e′, ← y .keeps .qubits) (cutStored-reach t (y .keeps .sound) (within-room y room) k inside′ (keepsCentre k u) (preparedFor k u .side) (pairOf gate k t) (rankOf gate k t) lo hi a b (within-reach y));
+            }
+
+-- ---- a route
+
+-- each step's pair lies from lo to hi
+abbrev pub Spans : ℕ → ℕ → List Step → Type 0
+Spans lo hi [] = Unit
+Spans lo hi (x ∷ xs) = (lo ≤ x .site) × (x .site + 1 ≤ hi) × Spans lo hi xs
+
+swaps-span : (lo hi near m : ℕ) (xs : List Step) → lo ≤ near → near + m + 1 ≤ hi → Spans lo hi xs → Spans lo hi (map swapStep (downTo near m) ++ xs)
+swaps-span lo hi near zero xs a b h = h
+swaps-span lo hi near (suc m) xs a b h = (omega arith, omega arith, swaps-span lo hi near m xs a (omega arith) h)
+
+pub route-spans : (lo hi : ℕ) (gate : List (List Complex)) (p q : ℕ) → p ≢ q → lo ≤ min p q → max p q ≤ hi → Spans lo hi (stepsOf gate (routeOf p q))
+route-spans lo hi gate p q apart a b = swaps-span lo hi (min p q) (max p q - min p q - 1) _ a (omega arith) (a, omega arith, tt)
+
+-- labels are neither store nor centre
+relabelled-centre : (x : Step) (t : State) → relabelledBy x t .chain .center ≡ t .chain .center
+relabelled-centre x t = either-way (λ (c : Chain). c .center ≡ t .chain .center) (x .relabels) _ _ refl refl
+
+stepped-same : (x : Step) (s : State) → (stepped x s .state .store ≡ adjacent (x .gate) (x .site) s .state .store) × (stepped x s .state .chain .center ≡ adjacent (x .gate) (x .site) s .state .chain .center)
+unfolding stepped
+stepped-same x s =
+    let t = adjacent (x .gate) (x .site) s .state in
+    either-way (λ (r : Ran). (r .state .store ≡ t .store) × (r .state .chain .center ≡ t .chain .center)) (eqb (adjacent (x .gate) (x .site) s .refused) 0) (ran 0 (relabelledBy x t)) (adjacent (x .gate) (x .site) s)
+    (refl, relabelled-centre x t) (refl, refl)
+
+module _ (lo hi : ℕ) where
+  pub stepped-within : (x : Step) (s : State) → Sound (s .chain) → Room s → x .site + 1 < s .chain .«num_qubits» → lo ≤ x .site → x .site + 1 ≤ hi → Reach (s .chain .«num_qubits») lo hi (s .chain .center)
+      → Within lo hi s (stepped x s .state)
+  stepped-within x s h room inside a b r =
+      let y = adjacent-within lo hi (x .site) a b (x .gate) s h room inside r in
+      let e = stepped-same x s in
+      record { keeps = stepped-keeps x s h inside; apart = rw (e .0) (y .apart); reach = rw (e .1) (y .reach) }
+
+  pub runSteps-within : (xs : List Step) (s : State) → Sound (s .chain) → Room s → Inside (s .chain .«num_qubits») xs → Spans lo hi xs → Reach (s .chain .«num_qubits») lo hi (s .chain .center)
+      → Within lo hi s (runSteps xs s .state)
+  unfolding runSteps
+  runSteps-within [] s h room inside spans r = within-none lo hi s h r
+  runSteps-within (x ∷ xs) s h room inside spans r =
+      let y = stepped-within x s h room (inside .0) (spans .0) (spans .1) r in
+      either-way (λ (z : Ran). Within lo hi s (z .state)) (eqb (stepped x s .refused) 0) (runSteps xs (stepped x s .state)) (stepped x s)
+      (within-then y (runSteps-within xs (stepped x s .state) (y .keeps .sound) (within-room y room) (rw (y .keeps .qubits) (inside .1)) (spans .2) (within-reach y)))
+      y
+
+-- ---- a site projected, and reset
+
+module _ (s : State) (h : Sound (s .chain)) (room : Room s) (k : ℕ) (inside : k < s .chain .«num_qubits») (o : Bool) where
+  -- rows of the left index, then of the bit
+  bits-fit : (f : ℕ → ℕ → ℕ → Complex) → length (rows (lefts s k) (λ a. rows 2 (λ i. numbers (rights s k) (f a i)))) ≤ slotRoom (s .chain .«max_bond_dim»)
+  bits-fit f =
+      let bl : lefts s k ≤ s .chain .«max_bond_dim» = omega (arith, h .bonds .left-range k inside .1, h .high-water .1) in
+      let br : rights s k ≤ s .chain .«max_bond_dim» = omega (arith, h .bonds .right-range k inside .1, h .high-water .1) in
+      rw (length-rows (2 * rights s k) _ (λ a. length-rows (rights s k) _ (λ i. length-numbers (rights s k) (f a i)) 2) (lefts s k)) (omega (arith, mul-le-mul bl br))
+
+  rewritten : (site : List Float) → length site ≤ slotRoom (s .chain .«max_bond_dim») → (b : Bool)
+      → Apart (s .chain .«num_qubits») (s .chain .«max_bond_dim») k k (s .store) (cond b s (held (s .chain) (withSite (s .chain .«max_bond_dim») k site (s .store))) .store)
+  rewritten site fits true = apart-none _ _ k k (s .store)
+  rewritten site fits false = site-apart _ _ k site (s .store) inside room fits
+
+  pub projectedAt-apart : Apart (s .chain .«num_qubits») (s .chain .«max_bond_dim») k k (s .store) (projectedAt k o s .store)
+  unfolding projectedAt projectedSite
+  projectedAt-apart = rewritten _ (bits-fit _) (le (weightAt k o s) (s .chain .«norm_clamp_min»))
+
+  pub resetAt-apart : Apart (s .chain .«num_qubits») (s .chain .«max_bond_dim») k k (s .store) (resetAt k o s .store)
+  unfolding resetAt resetSite
+  resetAt-apart = rewritten _ (bits-fit _) (le (weightAt k o s) (s .chain .«norm_clamp_min»))
+
+-- ---- a run that establishes no centre: only its cuts rewrite sites
+
+no-At : {at : Center} {k : ℕ} → at ≡ At k → at ≡ Unknown → ⊥
+no-At p q = let z : _≡_ {A = ℕ} 0 1 = cc in omega arith
+
+prepared-centre : (k : ℕ) (at : Center) (s : State) → preparedOn k at s .state .chain .center ≡ Unknown → ⊥
+prepared-centre k Unknown s e = no-At (established-centre k s) e
+prepared-centre k (At from) s e = pick (leb from k) e
+  where
+    pick : (b : Bool) → cond b (prepared Right (moved from k s)) (prepared Left (moved from (k + 1) s)) .state .chain .center ≡ Unknown → ⊥
+    pick true e = no-At (moved-centre from k s) e
+    pick false e = no-At (moved-centre from (k + 1) s) e
+
+-- with no centre after it, a pair was taken as it stood
+unmoved-pair : (k : ℕ) (s : State) → preparedFor k s .state .chain .center ≡ Unknown → keepsCentre k s ≡ false
+unmoved-pair k s = pick (keepsCentre k s)
+  where
+    pick : (b : Bool) → cond b (preparedOn k (s .chain .center) s) (prepared Right s) .state .chain .center ≡ Unknown → b ≡ false
+    pick true e = absurd (prepared-centre k (s .chain .center) s e)
+    pick false e = refl
+
+-- no centre after means none before, and then only the sites from lo to hi are rewritten
+pub record Unmoved (lo hi : ℕ) (s t : State) : Type 0 where
+  pub before : t .chain .center ≡ Unknown → s .chain .center ≡ Unknown
+  pub apart : t .chain .center ≡ Unknown → Apart (s .chain .«num_qubits») (s .chain .«max_bond_dim») lo hi (s .store) (t .store)
+
+unmoved-none : (lo hi : ℕ) (s : State) → Unmoved lo hi s s
+unmoved-none lo hi s = record { before = λ e. e; apart = λ e. apart-none _ _ lo hi (s .store) }
+
+unmoved-then : {lo hi : ℕ} {s t u : State} → Keeps (s .chain) (t .chain) → Unmoved lo hi s t → Unmoved lo hi t u → Unmoved lo hi s u
+unmoved-then {lo = lo} {hi = hi} k x y = record {
+  before = λ e. x .before (y .before e);
+  apart = λ e. apart-then lo hi (omega arith) (omega arith) (omega arith) (omega arith) (x .apart (y .before e)) (apart-as (k .qubits) (k .cap) (y .apart e));
+}
+
+module _ (lo hi k : ℕ) (a : lo ≤ k) (b : k + 1 ≤ hi) (gate : List (List Complex)) (s : State) (h : Sound (s .chain)) (room : Room s) (inside : k + 1 < s .chain .«num_qubits») where
+  -- the state in which the cut was made is the one that it found
+  found : (u : State) → MadeIn k s u → u .chain .center ≡ Unknown → u ≡ s
+  found u (inl e) c = e
+  found u (inr e) c = absurd (no-At (ap (λ (t : State). t .chain .center) (e .1) ∙ established-centre k s) c)
+
+  taken : (u : State) → MadeIn k s u → preparedFor k u .state .chain .center ≡ Unknown → preparedFor k u .state ≡ s
+  taken u m c =
+      let e : preparedFor k u .state ≡ u = ap (λ (p : Prepared). p .state) (unprepared k u (unmoved-pair k u c)) in
+      e ∙ found u m (ap (λ (t : State). t .chain .center) (sym e) ∙ c)
+
+  pair-unmoved : (u : State) → MadeIn k s u → Unmoved lo hi s (preparedFor k u .state)
+  pair-unmoved u m = record {
+    before = λ c. ap (λ (t : State). t .chain .center) (sym (taken u m c)) ∙ c;
+    apart = λ c. subst (λ (t : State). Apart (s .chain .«num_qubits») (s .chain .«max_bond_dim») lo hi (s .store) (t .store)) (sym (taken u m c)) (apart-none _ _ lo hi (s .store));
+  }
+
+  cut-unmoved : (p : State) (side : WeightSide) (keeps : Bool) (d : Svd) (chi : ℕ) → chi ≤ p .chain .«max_bond_dim» → (p .chain .center ≡ Unknown → p ≡ s) → Unmoved lo hi s (cutStored k keeps side p d chi)
+  cut-unmoved p side true d chi most same = record { before = λ e. absurd (no-At refl e); apart = λ e. absurd (no-At refl e) }
+  cut-unmoved p side false d chi most same = record {
+    before = λ e. ap (λ (t : State). t .chain .center) (sym (same e)) ∙ e;
+    apart = λ e.
+        let q = same e in
+        subst (λ (t : State). Apart (t .chain .«num_qubits») (t .chain .«max_bond_dim») lo hi (t .store) (cutStored k false side p d chi .store)) q
+        (widened a b (cutStored-apart p (subst (λ (t : State). Sound (t .chain)) (sym q) h) (subst Room (sym q) room) k (subst (λ (t : State). k + 1 < t .chain .«num_qubits») (sym q) inside) false side d chi most));
+  }
+
+  pub adjacent-unmoved : Unmoved lo hi s (adjacent gate k s .state)
+  adjacent-unmoved = cases (adjacent-made gate k s (established-narrow k s h inside))
+    where
+      cases : CutMade gate k s (adjacent gate k s) → Unmoved lo hi s (adjacent gate k s .state)
+      cases (above x e) = rw e (unmoved-none lo hi s)
+      cases (first-nan x n e) = subst (Unmoved lo hi s) (sym (ap (λ (r : Ran). r .state) e)) (pair-unmoved s (inl refl))
+      cases (second-nan x n e) = subst (Unmoved lo hi s) (sym (ap (λ (r : Ran). r .state) e)) (pair-unmoved (established k s) (inr (no-centre k s (n .0 .0), refl)))
+      cases (stored x n n′ u m e) =
+          let t = preparedFor k u .state in
+          subst (Unmoved lo hi s) (sym (ap (λ (r : Ran). r .state) e))
+          (cut-unmoved t (preparedFor k u .side) (keepsCentre k u) (pairOf gate k t) (rankOf gate k t) (cut-rank-most (t .chain .«svd_epsilon») (t .chain .«max_bond_dim») (values (pairOf gate k t))) (taken u m))
+
+module _ (lo hi : ℕ) where
+  stepped-unmoved : (x : Step) (s : State) → Sound (s .chain) → Room s → x .site + 1 < s .chain .«num_qubits» → lo ≤ x .site → x .site + 1 ≤ hi → Unmoved lo hi s (stepped x s .state)
+  stepped-unmoved x s h room inside a b =
+      let y = adjacent-unmoved lo hi (x .site) a b (x .gate) s h room inside in
+      let e = stepped-same x s in
+      record { before = λ c. y .before (sym (e .1) ∙ c); apart = λ c. rw (e .0) (y .apart (sym (e .1) ∙ c)) }
+
+  pub runSteps-unmoved : (xs : List Step) (s : State) → Sound (s .chain) → Room s → Inside (s .chain .«num_qubits») xs → Spans lo hi xs → Unmoved lo hi s (runSteps xs s .state)
+  unfolding runSteps
+  runSteps-unmoved [] s h room inside spans = unmoved-none lo hi s
+  runSteps-unmoved (x ∷ xs) s h room inside spans =
+      let y = stepped-unmoved x s h room (inside .0) (spans .0) (spans .1) in
+      let z = stepped-within 0 (s .chain .«num_qubits») x s h room (inside .0) (omega arith) (omega (arith, inside .0)) (anywhere (s .chain .center) (h .centre)) in
+      either-way (λ (r : Ran). Unmoved lo hi s (r .state)) (eqb (stepped x s .refused) 0) (runSteps xs (stepped x s .state)) (stepped x s)
+      (unmoved-then (z .keeps) y (runSteps-unmoved xs (stepped x s .state) (z .keeps .sound) (within-room z room) (rw (z .keeps .qubits) (inside .1)) (spans .2)))
+      y
+    where
+      anywhere : (at : Center) → ((j : ℕ) → at ≡ At j → j < s .chain .«num_qubits») → Reach (s .chain .«num_qubits») 0 (s .chain .«num_qubits») at
+      anywhere Unknown below = (refl, omega arith)
+      anywhere (At j) below = (omega arith, omega (arith, below j refl))

@@ -1,0 +1,8 @@
+-- What is proved of the definitions, each file short enough to be read in minutes. The proofs stand in `Laws`.
+pub mod Table
+pub mod Demand1
+pub mod Demand1Sound
+pub mod Demand1Cuts
+pub mod Demand3
+pub mod Factorings
+pub mod Marked
