@@ -1,6 +1,6 @@
 -- What each answer says, in document 01's terms: its refusal number, 0 where the call is accepted, and its value.
 use Prim.Native.Nat.{ℕ}
-use mathlib.Core.Bool.{Bool}
+use mathlib.Core.Bool.{Bool, cond}
 use lib.Ieee.{Float, binary64, toBits}
 use Rattle.model.specs.declared.Answer.{Answer}
 use Rattle.model.specs.declared.Answer.the-variants as answer
@@ -20,6 +20,14 @@ pub data Value : Type 0 where
   nothing : Value
   bit : Bool → Value
   dimension : ℕ → Value
+
+-- the value as a number, as document 01 prints it: the bits of the weight, zeros for Nothing, the measured bit, the dimension
+abbrev pub bitsOf : Value → ℕ
+bitsOf none = 0
+bitsOf (weight w) = toBits binary64 w
+bitsOf nothing = 0
+bitsOf (bit b) = cond b 1 0
+bitsOf (dimension n) = n
 
 -- an answer as document 01 compares it
 pub record View : Type 0 where
