@@ -1,0 +1,57 @@
+-- The invariant: the first i floats are +0, the others as they were.
+use mathlib.Core.Path.{_≡_, refl, sym, ap, _∙_}
+use mathlib.Core.List.{_++_}
+use Prim.Native.Nat.{ℕ, _≤_, _-_}
+use native.Mathlib.Omega.{arith}
+use lib.ListN.{length, take, drop, replicate, length-set, length-replicate, getD-replicate}
+use lib.Seq.{take-length}
+use lib.Ieee.{nan}
+use Rattle.complex.specs.Complex.{zeroF}
+use Rattle.gauge.specs.Copies.{copy-more, copy-all}
+use Rattle.gauge.proofs.clear.Statement.{statement}
+use Rattle.gauge.proofs.clear.Tie as tie
+
+abbrev Inv-loop : tie.InvT-loop
+Inv-loop s₀ i₀ i-end s i = (i ≤ i-end) × (i-end ≡ length s₀) × (length s ≡ length s₀) × (s ≡ take i (replicate (length s₀) zeroF) ++ drop i s₀)
+
+abbrev μ-loop : tie.MeasureT-loop
+μ-loop s₀ i₀ i-end s i = i-end - i
+
+loop-holds : tie.Need-loop-holds Inv-loop μ-loop
+loop-holds c = (omega arith, omega arith, omega arith, refl)
+
+mul-s : tie.Need-mul-s Inv-loop μ-loop
+mul-s c = omega arith
+
+slice-write-s : tie.Need-slice-write-s Inv-loop μ-loop
+slice-write-s c = omega arith
+
+add-i : tie.Need-add-i Inv-loop μ-loop
+add-i c = omega arith
+
+loop-less : tie.Need-loop-less Inv-loop μ-loop
+loop-less c = omega arith
+
+loop-again : tie.Need-loop-again Inv-loop μ-loop
+loop-again c = let s = c .before .before .args .s .now in let i = c .before .loop .i in (omega arith, omega arith, simp length-set (omega arith), rw (c .before .loop .inv .3) (rw (getD-replicate (length s) i zeroF nan (omega arith)) at (copy-more i (replicate (length s) zeroF) s nan (simp length-replicate (omega arith)) (omega arith))))
+
+same-length : tie.Need-same-length Inv-loop μ-loop
+same-length c = omega arith
+
+returns : tie.Need-returns Inv-loop μ-loop
+returns c = let s = c .before .before .args .s .now in c .before .loop .inv .3 ∙ copy-all (c .before .loop .i) (replicate (length s) zeroF) s (omega arith) ∙ ap (λ (n : ℕ). take n (replicate (length s) zeroF)) (sym (length-replicate (length s) zeroF)) ∙ take-length (replicate (length s) zeroF)
+
+pub clear-spec : {M : Type 1} → statement M
+clear-spec =
+    tie.close
+    (tie.spec
+    Inv-loop
+    μ-loop
+    loop-holds
+    mul-s
+    slice-write-s
+    add-i
+    loop-less
+    loop-again
+    same-length
+    returns)

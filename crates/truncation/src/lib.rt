@@ -1,0 +1,90 @@
+// What a cut keeps of its singular values, given in order, and the weight that it records as discarded.
+ghost use mathlib.Core.Path.{_≡_};
+ghost use Prim.Native.Nat.{_≤_, min, max};
+ghost use lib.ListN.{length, getD};
+ghost use Rattle.complex.specs.Complex.{zeroF};
+ghost use Rattle.model.specs.Truncation.{leading, rank, resolvable, squaresFrom, share, recorded};
+
+// 4 * 2^-52, the part of the largest value under which a dropped value counts as rounding.
+const SVD_RESOLUTION: f64 = 8.881784197001252e-16;
+
+// The first value, or 0.
+fn first(s: &[f64]) -> f64
+    ensures { λ r. ⌜ r ≡ getD (now (s .entry)) 0 zeroF ⌝ }
+{
+    if s.len() == 0 {
+        return 0.0;
+    }
+    s[0]
+}
+
+// How many values lead that are above the threshold.
+fn count_leading(s: &[f64], threshold: f64) -> usize
+    ensures { λ r. ⌜ r ≡ leading threshold (now (s .entry)) ⌝ }
+{
+    for k in 0..s.len() {
+        let above = s[k] > threshold;
+        if !above {
+            return k;
+        }
+    }
+    s.len()
+}
+
+fn larger(a: usize, b: usize) -> usize
+    ensures { λ r. ⌜ r ≡ max a b ⌝ }
+{
+    if a < b { b } else { a }
+}
+
+fn smaller(a: usize, b: usize) -> usize
+    ensures { λ r. ⌜ r ≡ min a b ⌝ }
+{
+    if a < b { a } else { b }
+}
+
+// How many values are kept: those above epsilon times the first, at least 1, at most max_bond_dim.
+pub fn truncated_svd_rank(s: &[f64], epsilon: f64, max_bond_dim: usize) -> usize
+    ensures { λ r. ⌜ r ≡ rank epsilon «max_bond_dim» (now (s .entry)) ⌝ }
+{
+    let threshold = epsilon * first(s);
+    let above = count_leading(s, threshold);
+    smaller(larger(above, 1), max_bond_dim)
+}
+
+// Whether keeping chi values drops one above the resolution times the first.
+pub fn discards_resolvable_weight(s: &[f64], chi: usize) -> bool
+    ensures { λ r. ⌜ r ≡ resolvable (now (s .entry)) chi ⌝ }
+{
+    if chi >= s.len() {
+        return false;
+    }
+    s[chi] > SVD_RESOLUTION * s[0]
+}
+
+// The squares of the values from place `from` on, summed.
+fn sum_squares_from(s: &[f64], from: usize) -> f64
+    requires { ⌜ from ≤ length (now s) ⌝ }
+    ensures { λ r. ⌜ r ≡ squaresFrom from (now (s .entry)) ⌝ }
+{
+    let mut sum = 0.0;
+    for j in 0..s.len() - from {
+        let x = s[from + j];
+        sum = sum + x * x;
+    }
+    sum
+}
+
+// The weight discarded before, with the share added that keeping chi_kept values drops.
+pub fn record_truncation(s: &[f64], chi_kept: usize, discarded: f64) -> f64
+    ensures { λ r. ⌜ r ≡ recorded discarded (share (now (s .entry)) «chi_kept») ⌝ }
+{
+    if chi_kept >= s.len() {
+        return discarded;
+    }
+    let total = sum_squares_from(s, 0);
+    if total <= 0.0 {
+        return discarded;
+    }
+    discarded + sum_squares_from(s, chi_kept) / total
+}
