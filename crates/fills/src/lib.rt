@@ -1,0 +1,242 @@
+// The ways to write a site's slot: from the factors of a cut, and from those of a QR step. What is left of the slot becomes +0.
+// Column g of a factor stands in w from number base + order[g] * stride on, and its value is number vals + order[g].
+use complex::Complex;
+use complex::complex_at;
+use complex::conj;
+use complex::mul;
+use complex::scale;
+use complex::set_complex;
+ghost use mathlib.Core.Path.{_≡_};
+ghost use mathlib.Core.List.{_++_};
+ghost use Prim.Native.Nat.{_+_, _-_, _*_, _<_, _≤_};
+ghost use lib.ListN.{length, replicate, take};
+ghost use Rattle.complex.specs.Complex.{scaleC, mulC, conjC, real, zeroF};
+ghost use Rattle.complex.specs.Numbers.{count, at, numbers};
+ghost use Rattle.model.specs.Slots.{filled};
+ghost use Rattle.model.specs.Pair.{isometrySite, scaledSite, vtSite, scaledVtSite};
+ghost use Rattle.fills.specs.Factors.{ColumnsIn, ValuesIn, columnOf, rowOf, valueOf};
+
+// ---- slots
+
+fn wide(x: u8) -> usize
+    ensures { λ r. ⌜ r ≡ x ⌝ }
+{
+    x as usize
+}
+
+// Every f64 of a slice becomes +0.
+fn clear(s: &mut [f64])
+    ensures { λ _. ⌜ now (s .exit) ≡ replicate (length (now (s .entry))) zeroF ⌝ }
+{
+    for i in 0..s.len() {
+        s[i] = 0.0;
+    }
+}
+
+// Every f64 from `from` on becomes +0.
+fn clear_from(s: &mut [f64], from: usize)
+    requires { ⌜ from ≤ length (now s) ⌝ }
+    ensures { λ _. ⌜ now (s .exit) ≡ take from (now (s .entry)) ++ replicate (length (now (s .entry)) - from) zeroF ⌝ }
+{
+    clear(&mut s[from..]);
+}
+
+// ---- the left site: row r has an element of each column
+
+fn isometry_row(
+    out: &mut [f64],
+    w: &[f64],
+    order: &[u8],
+    base: usize,
+    stride: usize,
+    r: usize,
+    chi: usize,
+)
+    requires { ⌜ (length (now out) ≡ 2 * chi) × (chi ≤ length (now order)) × (r < stride) × ColumnsIn (now w) (now order) base stride chi ⌝ }
+    ensures { λ _. ⌜ now (out .exit) ≡ numbers chi (λ g. columnOf (now (w .entry)) (now (order .entry)) base stride r g) ⌝ }
+{
+    for g in 0..chi {
+        let column = wide(order[g]);
+        set_complex(out, g, complex_at(w, base + (column * stride + r)));
+    }
+}
+
+// The columns as they are.
+pub fn fill_isometry_site_data(
+    slot: &mut [f64],
+    w: &[f64],
+    order: &[u8],
+    base: usize,
+    stride: usize,
+    bl: usize,
+    chi: usize,
+)
+    requires { ⌜ (bl ≤ 128) × (chi ≤ 256) × (2 * (2 * bl * chi) ≤ length (now slot)) × (chi ≤ length (now order)) × (2 * bl ≤ stride) × ColumnsIn (now w) (now order) base stride chi ⌝ }
+    ensures { λ _. ⌜ now (slot .exit) ≡ filled (length (now (slot .entry))) (isometrySite bl chi (columnOf (now (w .entry)) (now (order .entry)) base stride)) ⌝ }
+{
+    let high = 2 * bl;
+    let size = 2 * chi;
+    for r in 0..high {
+        let a = r * size;
+        let e = a + size;
+        isometry_row(&mut slot[a..e], w, order, base, stride, r, chi);
+    }
+    clear_from(slot, high * size);
+}
+
+fn scaled_row(
+    out: &mut [f64],
+    w: &[f64],
+    order: &[u8],
+    base: usize,
+    stride: usize,
+    vals: usize,
+    r: usize,
+    chi: usize,
+)
+    requires { ⌜ (length (now out) ≡ 2 * chi) × (chi ≤ length (now order)) × (r < stride) × ColumnsIn (now w) (now order) base stride chi × ValuesIn (now w) (now order) vals chi ⌝ }
+    ensures { λ _. ⌜ now (out .exit) ≡ numbers chi (λ g. scaleC (columnOf (now (w .entry)) (now (order .entry)) base stride r g) (valueOf (now (w .entry)) (now (order .entry)) vals g)) ⌝ }
+{
+    for g in 0..chi {
+        let column = wide(order[g]);
+        let x = complex_at(w, base + (column * stride + r));
+        let s = complex_at(w, vals + column);
+        set_complex(out, g, scale(x, s.re));
+    }
+}
+
+// The columns, each times its value.
+pub fn fill_scaled_u_site_data(
+    slot: &mut [f64],
+    w: &[f64],
+    order: &[u8],
+    base: usize,
+    stride: usize,
+    vals: usize,
+    bl: usize,
+    chi: usize,
+)
+    requires { ⌜ (bl ≤ 128) × (chi ≤ 256) × (2 * (2 * bl * chi) ≤ length (now slot)) × (chi ≤ length (now order)) × (2 * bl ≤ stride) × ColumnsIn (now w) (now order) base stride chi × ValuesIn (now w) (now order) vals chi ⌝ }
+    ensures { λ _. ⌜ now (slot .exit) ≡ filled (length (now (slot .entry))) (scaledSite bl chi (columnOf (now (w .entry)) (now (order .entry)) base stride) (valueOf (now (w .entry)) (now (order .entry)) vals)) ⌝ }
+{
+    let high = 2 * bl;
+    let size = 2 * chi;
+    for r in 0..high {
+        let a = r * size;
+        let e = a + size;
+        scaled_row(&mut slot[a..e], w, order, base, stride, vals, r, chi);
+    }
+    clear_from(slot, high * size);
+}
+
+fn plain_row(out: &mut [f64], w: &[f64], stride: usize, r: usize, chi: usize)
+    requires { ⌜ (length (now out) ≡ 2 * chi) × (r < stride) × (chi * stride ≤ count (now w)) ⌝ }
+    ensures { λ _. ⌜ now (out .exit) ≡ numbers chi (λ g. at (now (w .entry)) (g * stride + r)) ⌝ }
+{
+    for g in 0..chi {
+        set_complex(out, g, complex_at(w, g * stride + r));
+    }
+}
+
+// The first chi columns of w, a matrix of `stride` rows, in their own order.
+pub fn fill_columns(slot: &mut [f64], w: &[f64], stride: usize, bl: usize, chi: usize)
+    requires { ⌜ (bl ≤ 128) × (chi ≤ 256) × (2 * (2 * bl * chi) ≤ length (now slot)) × (2 * bl ≤ stride) × (chi * stride ≤ count (now w)) ⌝ }
+    ensures { λ _. ⌜ now (slot .exit) ≡ filled (length (now (slot .entry))) (isometrySite bl chi (λ r g. at (now (w .entry)) (g * stride + r))) ⌝ }
+{
+    let high = 2 * bl;
+    let size = 2 * chi;
+    for r in 0..high {
+        let a = r * size;
+        let e = a + size;
+        plain_row(&mut slot[a..e], w, stride, r, chi);
+    }
+    clear_from(slot, high * size);
+}
+
+// ---- the right site: row g is a column's conjugate
+
+fn conj_row(out: &mut [f64], w: &[f64], base: usize, start: usize, n: usize)
+    requires { ⌜ (length (now out) ≡ 2 * n) × (base + (start + n) ≤ count (now w)) ⌝ }
+    ensures { λ _. ⌜ now (out .exit) ≡ numbers n (λ c. conjC (at (now (w .entry)) (base + (start + c)))) ⌝ }
+{
+    for c in 0..n {
+        set_complex(out, c, conj(complex_at(w, base + (start + c))));
+    }
+}
+
+// The rows of V† as they are.
+pub fn fill_vt_site_data(
+    slot: &mut [f64],
+    w: &[f64],
+    order: &[u8],
+    base: usize,
+    stride: usize,
+    chi: usize,
+    br: usize,
+)
+    requires { ⌜ (chi ≤ 256) × (br ≤ 128) × (2 * (chi * (2 * br)) ≤ length (now slot)) × (chi ≤ length (now order)) × (2 * br ≤ stride) × ColumnsIn (now w) (now order) base stride chi ⌝ }
+    ensures { λ _. ⌜ now (slot .exit) ≡ filled (length (now (slot .entry))) (vtSite chi br (rowOf (now (w .entry)) (now (order .entry)) base stride)) ⌝ }
+{
+    let n = 2 * br;
+    let size = 2 * n;
+    for g in 0..chi {
+        let a = g * size;
+        let e = a + size;
+        let column = wide(order[g]);
+        conj_row(&mut slot[a..e], w, base, column * stride, n);
+    }
+    clear_from(slot, chi * size);
+}
+
+// The full product of (s, +0) with the conjugates.
+fn scaled_conj_row(out: &mut [f64], w: &[f64], base: usize, start: usize, s: f64, n: usize)
+    requires { ⌜ (length (now out) ≡ 2 * n) × (base + (start + n) ≤ count (now w)) ⌝ }
+    ensures { λ _. ⌜ now (out .exit) ≡ numbers n (λ c. mulC (real s) (conjC (at (now (w .entry)) (base + (start + c))))) ⌝ }
+{
+    let factor = Complex { re: s, im: 0.0 };
+    for c in 0..n {
+        let x = complex_at(w, base + (start + c));
+        set_complex(out, c, mul(factor, conj(x)));
+    }
+}
+
+// The rows of V†, each times its value.
+pub fn fill_scaled_vt_data(
+    slot: &mut [f64],
+    w: &[f64],
+    order: &[u8],
+    base: usize,
+    stride: usize,
+    vals: usize,
+    chi: usize,
+    br: usize,
+)
+    requires { ⌜ (chi ≤ 256) × (br ≤ 128) × (2 * (chi * (2 * br)) ≤ length (now slot)) × (chi ≤ length (now order)) × (2 * br ≤ stride) × ColumnsIn (now w) (now order) base stride chi × ValuesIn (now w) (now order) vals chi ⌝ }
+    ensures { λ _. ⌜ now (slot .exit) ≡ filled (length (now (slot .entry))) (scaledVtSite chi br (rowOf (now (w .entry)) (now (order .entry)) base stride) (valueOf (now (w .entry)) (now (order .entry)) vals)) ⌝ }
+{
+    let n = 2 * br;
+    let size = 2 * n;
+    for g in 0..chi {
+        let a = g * size;
+        let e = a + size;
+        let column = wide(order[g]);
+        let s = complex_at(w, vals + column);
+        scaled_conj_row(&mut slot[a..e], w, base, column * stride, s.re, n);
+    }
+    clear_from(slot, chi * size);
+}
+
+// The conjugates of the first chi columns of w, a matrix of `stride` rows, in their own order.
+pub fn fill_rows_conj(slot: &mut [f64], w: &[f64], stride: usize, chi: usize, br: usize)
+    requires { ⌜ (chi ≤ 256) × (br ≤ 128) × (2 * (chi * (2 * br)) ≤ length (now slot)) × (2 * br ≤ stride) × (chi * stride ≤ count (now w)) ⌝ }
+    ensures { λ _. ⌜ now (slot .exit) ≡ filled (length (now (slot .entry))) (vtSite chi br (λ g c. conjC (at (now (w .entry)) (g * stride + c)))) ⌝ }
+{
+    let n = 2 * br;
+    let size = 2 * n;
+    for g in 0..chi {
+        let a = g * size;
+        let e = a + size;
+        conj_row(&mut slot[a..e], w, 0, g * stride, n);
+    }
+    clear_from(slot, chi * size);
+}
