@@ -1,4 +1,4 @@
--- The weights of the two outcomes at the centre (Schollwöck 2011, 4.4: with the centre on a site, its own amplitudes give them), the draw, projection and reset
+-- The weights of the two outcomes at the centre (Schollwöck 2011, 4.1.3: in mixed-canonical form the centre's own amplitudes give them), the draw, projection and reset
 -- (born_weights, draw_outcome, project_site_outcome, collapse_site_to_zero).
 use Prim.Native.Nat.{ℕ, _+_, _*_}
 use mathlib.Core.Bool.{Bool, true, false, cond, Bool·beq}

@@ -1,4 +1,4 @@
--- One-sided Jacobi rotations (Golub and Van Loan, 8.6.3), each operation rounded in the order of svd_jacobi. It works in place: the list holds, in numbers, a matrix
+-- One-sided Jacobi rotations (Golub and Van Loan, 8.6, Jacobi SVD procedures), each operation rounded in the order of svd_jacobi. It works in place: the list holds, in numbers, a matrix
 -- of `high` rows and `wide` columns, by columns, from 0 on, and the product of the rotations, `wide` by `wide`, by columns, from wide * high on.
 use Prim.Native.Nat.{ℕ, zero, suc, _+_, _*_}
 use mathlib.Core.Bool.{Bool, true, false, cond}

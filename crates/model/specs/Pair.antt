@@ -1,5 +1,5 @@
 -- Two neighbouring sites as one: their contraction, the gate on it, its matrix, and the two sites made of its factors.
--- (Vidal 2003, equations 8 to 12; Schollwöck 2011, 4.3.1 and 7.1.) A site of bonds bl and br is a matrix of 2 bl rows, row 2 a + i for left index a and bit i.
+-- (Vidal 2003, Lemma 2; Schollwöck 2011, 4.1.3 and 4.5.1.) A site of bonds bl and br is a matrix of 2 bl rows, row 2 a + i for left index a and bit i.
 use Prim.Native.Nat.{ℕ, _+_, _*_}
 use mathlib.Core.Bool.{Bool, cond}
 use mathlib.Core.List.{List}

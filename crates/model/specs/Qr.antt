@@ -1,4 +1,4 @@
--- The thin QR factoring of a gauge move, by modified Gram-Schmidt with reorthogonalisation (Golub and Van Loan, 5.2.8 and 5.2.9), each operation rounded in the
+-- The thin QR factoring of a gauge move, by modified Gram-Schmidt (Golub and Van Loan, 5.2.8) with up to two passes more, each operation rounded in the
 -- order of ThinQr::factorize_gram_schmidt. It works in place: the list holds, in numbers, a matrix of `high` rows and `wide` columns, by columns, from 0 on, whose
 -- first `rank` columns become q; and r, of min(high, wide) rows and `wide` columns, by rows, from wide * high on.
 use Prim.Native.Nat.{ℕ, zero, suc, _+_, _*_, _/_, min}

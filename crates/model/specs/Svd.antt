@@ -1,4 +1,4 @@
--- The thin singular value decomposition of a cut (svd_jacobi; Golub and Van Loan, 8.6.3): rotations until all pairs of columns are orthogonal, the columns' norms
+-- The thin singular value decomposition of a cut (svd_jacobi; Golub and Van Loan, 8.6, Jacobi SVD procedures): rotations until all pairs of columns are orthogonal, the columns' norms
 -- as values, and the columns in the values' order. Where there are fewer rows than columns, the conjugate transpose is decomposed.
 use Prim.Native.Nat.{ℕ, _+_, _*_}
 use mathlib.Core.Bool.{Bool, true, false, cond, _||_}
