@@ -1,14 +1,12 @@
 -- What every call leaves of its record and slices, whatever it answers.
 use Prim.Native.Nat.{ℕ, _*_, _≤_, _<_, min, max}
 use native.Mathlib.Omega.{arith}
-use native.Mathlib.Nat.{lt-of-not-le}
-use mathlib.Core.Path.{_≡_, refl, sym, ap, _∙_}
-use mathlib.Core.Logic.{inl, inr, ⊎-elim, _≢_}
-use mathlib.Core.Bool.{Bool, true, false, not, _||_, cond, true≢false, false≢true}
+use mathlib.Core.Path.{_≡_, refl}
+use mathlib.Core.Logic.{inl, inr, _≢_}
+use mathlib.Core.Bool.{Bool, true, false, not, _||_, cond}
 use mathlib.Core.List.{List, [], _∷_}
 use lib.Dec.{leb, eqb}
-use borrow.Author.Tests.{leb-false, eqb-false}
-use lib.ListN.{length, getD, take, drop, replicate, length-append, length-drop, length-replicate}
+use lib.ListN.{length, replicate, length-append, length-drop, length-replicate}
 use lib.Seq.{take-at, drop-at}
 use lib.Ieee.{Float}
 use Rattle.complex.specs.Complex.{zeroF}
@@ -23,69 +21,26 @@ use Rattle.model.specs.declared.Answer.the-variants as answer
 use Rattle.model.specs.declared.Applied.the-variants as applied
 use Rattle.model.specs.declared.Projected.the-variants as projected
 use Rattle.model.specs.declared.Measured.the-variants as measured
+use Rattle.model.specs.declared.Applied.{Applied}
 use Rattle.model.specs.Chain.{siteOf}
 use Rattle.model.specs.Slots.{State, storeRoom, workRoom}
 use Rattle.model.specs.Cut.{Ran, attempt, adjacent}
 use Rattle.model.specs.Moves.{established}
-use Rattle.model.specs.Routing.{Step, routeOf, stepsOf, stepped, runSteps, gateRun}
+use Rattle.model.specs.Routing.{Step, stepped, runSteps, gateRun}
 use Rattle.model.specs.Born.{readied, projectedAt, resetAt, drawnAt}
 use Rattle.model.specs.Answers.{View, viewAnswer, viewApplied, viewProjected, viewMeasured}
 use Rattle.model.specs.Sound.{share01, sound}
+use Rattle.model.specs.Calls.{After, after, firstOf, short, outside, cleared, flagged, gateRefusal, appliedOf, gateCall, namedGateCall, projectRefusal, projectAnswer, projectCall, measureRefusal, measureCall, resetRefusal, resetCall}
+use Rattle.model.specs.Statements.Table.{gateSteps}
+use Rattle.model.specs.Statements.Demand1.{Early, Late, lowest, highest, WorkLeft, StoreLeft, Leaves}
 use Rattle.model.specs.Laws.SoundFacts.{Sound}
-use Rattle.model.specs.Calls.{after, firstOf, short, outside, cleared, flagged, gateRefusal, appliedOf, gateAfter, gateCall, namedGateCall, projectRefusal, projectAnswer, projectCall, measureRefusal, measureCall, resetRefusal, resetCall}
-use Rattle.model.specs.Laws.MoveLaws.{Apart, apart-then}
-use Rattle.model.specs.Laws.RunLaws.{Room, Reach, Within, within-room, apart-as, readied-within, route-spans, runSteps-within, runSteps-unmoved, projectedAt-apart, resetAt-apart}
-use Rattle.model.specs.Statements.Table.{NoPair}
-use Rattle.model.specs.Laws.Refusals.{decides-short, project-accepted}
-use Rattle.model.specs.Laws.GateRefusals.{decides-false, passes-sound, decides-pair, gate-inside, applied-number}
-use Rattle.model.specs.Statements.Demand1.{Early, Late, lowest, highest, StoreLeft, Leaves}
-use Rattle.model.specs.Laws.CutGrounds.{Attempted, attempted, above, nan, again, stored, either-way, stepped-number}
-
--- ---- numbers: refused before anything is written, or else run
-
-pub early-late : {k : ℕ} → Early k → Late k → ⊥
-early-late e (inl z) = omega arith
-early-late e (inr z) = omega arith
-
-pub firstOf-least : (b3 b2 b4 b5 : Bool) → firstOf b3 b2 b4 b5 ≤ 5
-firstOf-least true b2 b4 b5 = omega arith
-firstOf-least false true b4 b5 = omega arith
-firstOf-least false false true b5 = omega arith
-firstOf-least false false false true = omega arith
-firstOf-least false false false false = omega arith
-
--- none of the four tests holds where no ground refuses
-pub record Passes (b3 b2 b4 b5 : Bool) : Type 0 where
-  pub three : b3 ≡ false
-  pub two : b2 ≡ false
-  pub four : b4 ≡ false
-  pub five : b5 ≡ false
-
-pub firstOf-none : (b3 b2 b4 b5 : Bool) → eqb (firstOf b3 b2 b4 b5) 0 ≡ true → Passes b3 b2 b4 b5
-firstOf-none true b2 b4 b5 e = absurd (false≢true e)
-firstOf-none false true b4 b5 e = absurd (false≢true e)
-firstOf-none false false true b5 e = absurd (false≢true e)
-firstOf-none false false false true e = absurd (false≢true e)
-firstOf-none false false false false e = record { three = refl; two = refl; four = refl; five = refl }
-
--- ---- a call: refused as k says, or else run
-
-module _ {A : Type 0} (f : A → ℕ) (k m : ℕ) (x y : A) (run : f x ≡ m) (turned : f y ≡ k) where
-  -- a number from 1 to 5 is a refusal's
-  pub refused-early : Late m → Early (f (cond (eqb k 0) x y)) → cond (eqb k 0) x y ≡ y
-  refused-early late e = pick (eqb k 0) e
-    where
-      pick : (b : Bool) → Early (f (cond b x y)) → cond b x y ≡ y
-      pick true e = absurd (early-late (rw run at e) late)
-      pick false e = refl
-
-  -- any other number is the run's
-  pub run-late : k ≤ 5 → Late (f (cond (eqb k 0) x y)) → eqb k 0 ≡ true
-  run-late small l = pick (eqb k 0) refl l
-    where
-      pick : (b : Bool) → eqb k 0 ≡ b → Late (f (cond b x y)) → b ≡ true
-      pick true e l = refl
-      pick false e l = let z = eqb-false k 0 e in absurd (⊎-elim (λ (v : f y ≡ 0). z (sym turned ∙ v)) (λ (v : 6 ≤ f y). omega arith) l)
+use Rattle.model.specs.Laws.MoveLaws.{Apart, apart-at, apart-then}
+use Rattle.model.specs.Laws.RunLaws.{Room, Reach, Within, within-room, readied-within, route-spans, Unmoved, runSteps-within, runSteps-unmoved, projectedAt-apart, resetAt-apart}
+use Rattle.model.specs.Laws.Labels.{sound-maps, sites-apart}
+use Rattle.model.specs.Laws.Refusals.{project-passes, measure-passes, reset-passes, above-zero, early-late, applied-number, decides-short, firstOf-least, project-accepted}
+use Rattle.model.specs.Laws.SoundKept.{AcceptedGate, gate-accepted}
+use Rattle.model.specs.Laws.CutEnds.{Attempted, attempted, above, nan, again, stored, stepped-number}
+use Rattle.model.specs.Laws.Tests.{by-test, decides-false, either-way}
 
 -- ---- the numbers of a run
 
@@ -111,22 +66,26 @@ runSteps-late (x ∷ xs) s =
 
 pub gateRun-late : (gate : List (List Complex)) (q0 q1 : ℕ) (s : State) → Late (gateRun gate q0 q1 s .refused)
 unfolding gateRun
-gateRun-late gate q0 q1 s = runSteps-late (stepsOf gate (routeOf (siteOf (s .chain) q0) (siteOf (s .chain) q1))) s
+gateRun-late gate q0 q1 s = runSteps-late (gateSteps s q0 q1 gate) s
 
 -- ---- the work slice
 
-module _ (c : Chain) (work : List Float) where
-  pub cleared-front : take (workRoom (c .«max_bond_dim»)) (cleared c work) ≡ replicate (workRoom (c .«max_bond_dim»)) zeroF
-  unfolding cleared
-  cleared-front = take-at (replicate (workRoom (c .«max_bond_dim»)) zeroF) _ (workRoom (c .«max_bond_dim»)) (length-replicate (workRoom (c .«max_bond_dim»)) zeroF)
+module _ (c : Chain) (number : ℕ) (work : List Float) where
+  abbrev need : ℕ
+  need = workRoom (c .«max_bond_dim»)
 
-  pub cleared-past : drop (workRoom (c .«max_bond_dim»)) (cleared c work) ≡ drop (workRoom (c .«max_bond_dim»)) work
-  unfolding cleared
-  cleared-past = drop-at (replicate (workRoom (c .«max_bond_dim»)) zeroF) _ (workRoom (c .«max_bond_dim»)) (length-replicate (workRoom (c .«max_bond_dim»)) zeroF)
+  -- refused before it ran, a call leaves it
+  pub work-kept : Early number → WorkLeft (c .«max_bond_dim») number work work
+  work-kept e = record { unaltered = λ x. refl; cleared = λ l. absurd (early-late e l); past = refl; long = refl }
 
-  pub cleared-length : workRoom (c .«max_bond_dim») ≤ length work → length (cleared c work) ≡ length work
+  pub work-cleared : Late number → need ≤ length work → WorkLeft (c .«max_bond_dim») number work (cleared c work)
   unfolding cleared
-  cleared-length h = simp (length-append, length-replicate, length-drop) (omega arith)
+  work-cleared l room = record {
+    unaltered = λ e. absurd (early-late e l);
+    cleared = λ z. take-at (replicate need zeroF) _ need (length-replicate need zeroF);
+    past = drop-at (replicate need zeroF) _ need (length-replicate need zeroF);
+    long = simp (length-append, length-replicate, length-drop) (omega arith);
+  }
 
 -- ---- a call's record and slices
 
@@ -155,18 +114,13 @@ module _ {A : Type 0} (view : A → View) (s : State) (work : List Float) (near 
   turned-leaves : (a : A) → Early (view a .number) → Leaves s work near far (view a .number) (after a s work)
   turned-leaves a e = record {
     unaltered = λ x. refl;
-    work-left = record { unaltered = λ x. refl; cleared = λ l. absurd (early-late e l); past = refl; long = refl };
+    work-left = work-kept (s .chain) (view a .number) work e;
     store-left = record { slots = λ j o. refl; past = refl; long = refl };
   }
 
   run-leaves : (a : A) (t : State) → Late (view a .number) → workRoom (s .chain .«max_bond_dim») ≤ length work → sitesApart t → Leaves s work near far (view a .number) (after a t (cleared (s .chain) work))
   run-leaves a t l room x = record {
-    work-left = record {
-      unaltered = λ e. absurd (early-late e l);
-      cleared = λ z. cleared-front (s .chain) work;
-      past = cleared-past (s .chain) work;
-      long = cleared-length (s .chain) work room;
-    };
+    work-left = work-cleared (s .chain) (view a .number) work l room;
     unaltered = λ e. absurd (early-late e l);
     store-left = apart-left x;
   }
@@ -174,14 +128,9 @@ module _ {A : Type 0} (view : A → View) (s : State) (work : List Float) (near 
   pub call-leaves : (k : ℕ) (a back : A) (t : State) → k ≤ 5 → view back .number ≡ k → Late (view a .number)
       → (eqb k 0 ≡ true → (workRoom (s .chain .«max_bond_dim») ≤ length work) × sitesApart t)
       → (let z = cond (eqb k 0) (after a t (cleared (s .chain) work)) (after back s work) in Leaves s work near far (view (z .answer) .number) z)
-  call-leaves k a back t small e l accepted = pick (eqb k 0) refl
-    where
-      pick : (b : Bool) → eqb k 0 ≡ b → (let z = cond b (after a t (cleared (s .chain) work)) (after back s work) in Leaves s work near far (view (z .answer) .number) z)
-      pick true q = let y = accepted q in run-leaves a t l (y .0) (y .1)
-      pick false q = let z = eqb-false k 0 q in turned-leaves back (rw e (above-zero k z, small))
-        where
-          above-zero : (k : ℕ) → (k ≡ 0 → ⊥) → 1 ≤ k
-          above-zero k z = omega arith
+  call-leaves k a back t small e l accepted =
+      by-test (λ (z : After A). Leaves s work near far (view (z .answer) .number) z) (eqb k 0) _ _
+      (λ q. let y = accepted q in run-leaves a t l (y .0) (y .1)) (λ q. turned-leaves back (rw e (above-zero k q, small)))
 
 -- ---- the range of a call
 
@@ -213,14 +162,14 @@ module _ (s : State) (work : List Float) (q : ℕ) where
     pub ready : Within (lowest (s .chain .center) k) (highest (s .chain .center) (s .chain .«num_qubits») k) s t
     ready =
         let inside : k < s .chain .«num_qubits» = h .sites .below q below in
-        readied-within s h room _ _ k inside (lowest-near (s .chain .center) k) (far-highest (s .chain .center) (s .chain .«num_qubits») k (omega arith)) (own-reach (s .chain .center) (s .chain .«num_qubits») k k (omega arith))
+        readied-within s h room _ _ k (lowest-near (s .chain .center) k) (own-reach (s .chain .center) (s .chain .«num_qubits») k k (omega arith)) inside (far-highest (s .chain .center) (s .chain .«num_qubits») k (omega arith))
 
     -- the centre move, then a site rewritten
     then-rewritten : (u : State) → Apart (t .chain .«num_qubits») (t .chain .«max_bond_dim») k k (t .store) (u .store) → Rewrites u
     then-rewritten u x =
         let inside : k < s .chain .«num_qubits» = h .sites .below q below in
         apart-then _ _ (omega arith) (omega arith) (lowest-near (s .chain .center) k) (far-highest (s .chain .center) (s .chain .«num_qubits») k (omega arith))
-        (ready .apart) (apart-as (ready .keeps .qubits) (ready .keeps .cap) x)
+        (ready .apart) (apart-at (ready .keeps .qubits) (ready .keeps .cap) x)
 
     ready-inside : k < t .chain .«num_qubits»
     ready-inside = rw (ready .keeps .qubits) (h .sites .below q below)
@@ -233,23 +182,12 @@ module _ (s : State) (work : List Float) (q : ℕ) where
 
 -- ---- the calls
 
--- a qubit of the chain
-pub not-outside : (c : Chain) (q : ℕ) → outside c q ≡ false → q < c .«num_qubits»
-not-outside c q e = leb-false (c .«num_qubits») q e
-
-pub neither : (a b : Bool) → a || b ≡ false → (a ≡ false) × (b ≡ false)
-neither true b e = absurd (true≢false e)
-neither false b e = (refl, e)
-
 module _ (s : State) (work : List Float) where
   abbrev tests : Bool → Bool → ℕ
   tests four five = firstOf (not (sound (s .chain))) (short (s .chain) (s .store) work) four five
 
   small : (four five : Bool) → tests four five ≤ 5
   small four five = firstOf-least (not (sound (s .chain))) (short (s .chain) (s .store) work) four five
-
-  passes : (four five : Bool) → eqb (tests four five) 0 ≡ true → Passes (not (sound (s .chain))) (short (s .chain) (s .store) work) four five
-  passes four five e = firstOf-none (not (sound (s .chain))) (short (s .chain) (s .store) work) four five e
 
   pub project-leaves : (q : ℕ) (o : Bool) → (let a = projectCall s work q o in let k = siteOf (s .chain) q in Leaves s work k k (viewProjected (a .answer) .number) a)
   unfolding projectCall
@@ -259,9 +197,9 @@ module _ (s : State) (work : List Float) where
       call-leaves viewProjected s work k k (projectRefusal s work q) (projectAnswer k o t) (projected.Refused (projectRefusal s work q)) (projectedAt k o t)
       (small (outside (s .chain) q) false) refl (inl (project-accepted k o t))
       (λ e.
-      let p = passes (outside (s .chain) q) false e in
-      let l = not-short s work (p .two) in
-      (l .scratch, projected-rewrites s work q (passes-sound (s .chain) (p .three)) (l .amplitudes) (not-outside (s .chain) q (p .four)) o))
+      let a = project-passes s work q e in
+      let l = not-short s work (a .long) in
+      (l .scratch, projected-rewrites s work q (a .sound) (l .amplitudes) (a .below) o))
 
   pub measure-leaves : (q flag : ℕ) (draw : Float) → (let a = measureCall s work q flag draw in let k = siteOf (s .chain) q in Leaves s work k k (viewMeasured (a .answer) .number) a)
   unfolding measureCall
@@ -272,9 +210,9 @@ module _ (s : State) (work : List Float) where
       call-leaves viewMeasured s work k k (measureRefusal s work q flag draw) (measured.Bit b) (measured.Refused (measureRefusal s work q flag draw)) (flagged flag b (projectedAt k b t))
       (small (outside (s .chain) q || leb 64 flag) (not (share01 draw))) refl (inl refl)
       (λ e.
-      let p = passes (outside (s .chain) q || leb 64 flag) (not (share01 draw)) e in
-      let l = not-short s work (p .two) in
-      (l .scratch, projected-rewrites s work q (passes-sound (s .chain) (p .three)) (l .amplitudes) (not-outside (s .chain) q (neither (outside (s .chain) q) (leb 64 flag) (p .four) .0)) b))
+      let a = measure-passes s work q flag draw e in
+      let l = not-short s work (a .long) in
+      (l .scratch, projected-rewrites s work q (a .sound) (l .amplitudes) (a .below) b))
 
   pub reset-leaves : (q : ℕ) (draw : Float) → (let a = resetCall s work q draw in let k = siteOf (s .chain) q in Leaves s work k k (viewAnswer (a .answer) .number) a)
   unfolding resetCall
@@ -285,9 +223,9 @@ module _ (s : State) (work : List Float) where
       call-leaves viewAnswer s work k k (resetRefusal s work q draw) answer.Done (answer.Refused (resetRefusal s work q draw)) (resetAt k b t)
       (small (outside (s .chain) q) (not (share01 draw))) refl (inl refl)
       (λ e.
-      let p = passes (outside (s .chain) q) (not (share01 draw)) e in
-      let l = not-short s work (p .two) in
-      (l .scratch, reset-rewrites s work q (passes-sound (s .chain) (p .three)) (l .amplitudes) (not-outside (s .chain) q (p .four)) b))
+      let a = reset-passes s work q draw e in
+      let l = not-short s work (a .long) in
+      (l .scratch, reset-rewrites s work q (a .sound) (l .amplitudes) (a .below) b))
 
   module _ (q0 q1 : ℕ) where
     abbrev p : ℕ
@@ -296,32 +234,28 @@ module _ (s : State) (work : List Float) where
     abbrev q : ℕ
     q = siteOf (s .chain) q1
 
-    -- sites of the chain, and two of them
-    pub record Pair : Type 0 where
-      pub first : p < s .chain .«num_qubits»
-      pub second : q < s .chain .«num_qubits»
-      pub two : p ≢ q
+    module _ (gate : List (List Complex)) (x : AcceptedGate s work q0 q1 gate) where
+      room : Room s
+      room = not-short s work (x .long) .amplitudes
 
-    not-pair : Sound (s .chain) → (NoPair (s .chain) q0 q1 → ⊥) → Pair
-    not-pair h f =
-        let l0 : q0 < s .chain .«num_qubits» = lt-of-not-le (λ x. f (inl x)) in
-        let l1 : q1 < s .chain .«num_qubits» = lt-of-not-le (λ x. f (inr (inl x))) in
-        record {
-          first = h .sites .below q0 l0;
-          second = h .sites .below q1 l1;
-          two = λ e. f (inr (inr (sym (h .sites .undone q0 l0) ∙ ap (λ (k : ℕ). getD (s .chain .«site_to_logical») k 0) e ∙ h .sites .undone q1 l1)));
-        }
+      two : p ≢ q
+      two = sites-apart (sound-maps (s .chain) (x .sound)) q0 q1 (x .first) (x .second) (x .two)
 
-    gate-rewrites : (gate : List (List Complex)) → Sound (s .chain) → Room s → (NoPair (s .chain) q0 q1 → ⊥)
-        → Within (lowest (s .chain .center) (min p q)) (highest (s .chain .center) (s .chain .«num_qubits») (max p q)) s (gateRun gate q0 q1 s .state)
-    unfolding gateRun
-    gate-rewrites gate h room f =
-        let x = not-pair h f in
-        let most : max p q < s .chain .«num_qubits» = omega (arith, x .first, x .second) in
-        let order : min p q ≤ max p q = omega arith in
-        runSteps-within _ _ (stepsOf gate (routeOf p q)) s h room (gate-inside (s .chain) q0 q1 gate h f)
-        (route-spans _ _ gate p q (x .two) (lowest-near (s .chain .center) (min p q)) (far-highest (s .chain .center) (s .chain .«num_qubits») (max p q) most))
-        (own-reach (s .chain .center) (s .chain .«num_qubits») (min p q) (max p q) order)
+      gate-rewrites : Within (lowest (s .chain .center) (min p q)) (highest (s .chain .center) (s .chain .«num_qubits») (max p q)) s (gateRun gate q0 q1 s .state)
+      unfolding gateRun
+      gate-rewrites =
+          let most : max p q < s .chain .«num_qubits» = omega (arith, x .sound .sites .below q0 (x .first), x .sound .sites .below q1 (x .second)) in
+          let order : min p q ≤ max p q = omega arith in
+          runSteps-within _ _ (gateSteps s q0 q1 gate) s (x .sound) room (x .inside)
+          (route-spans _ _ gate p q two (lowest-near (s .chain .center) (min p q)) (far-highest (s .chain .center) (s .chain .«num_qubits») (max p q) most))
+          (own-reach (s .chain .center) (s .chain .«num_qubits») (min p q) (max p q) order)
+
+      run-unmoved : Unmoved (min p q) (max p q) s (gateRun gate q0 q1 s .state)
+      unfolding gateRun
+      run-unmoved =
+          let low : min p q ≤ min p q = omega arith in
+          let high : max p q ≤ max p q = omega arith in
+          runSteps-unmoved (min p q) (max p q) (gateSteps s q0 q1 gate) s (x .sound) room (x .inside) (route-spans (min p q) (max p q) gate p q two low high)
 
     pub gate-leaves : (gate : List (List Complex)) → (let a = gateCall s work q0 q1 gate in Leaves s work (min p q) (max p q) (viewApplied (a .answer) .number) a)
     unfolding gateCall
@@ -330,29 +264,14 @@ module _ (s : State) (work : List Float) where
         let four = outside (s .chain) q0 || outside (s .chain) q1 || eqb q0 q1 in
         call-leaves viewApplied s work (min p q) (max p q) (gateRefusal s work q0 q1 gate) (appliedOf (r .refused)) (applied.Refused (gateRefusal s work q0 q1 gate)) (r .state)
         (small four (not (allFinite gate))) refl (rw (applied-number (r .refused)) (gateRun-late gate q0 q1 s))
-        (λ e.
-        let x = passes four (not (allFinite gate)) e in
-        let l = not-short s work (x .two) in
-        (l .scratch, gate-rewrites gate (passes-sound (s .chain) (x .three)) (l .amplitudes) (decides-false (decides-pair (s .chain) q0 q1) (x .four)) .apart))
+        (λ e. let x = gate-accepted s work q0 q1 gate e in (not-short s work (x .long) .scratch, gate-rewrites gate x .apart))
 
     pub gate-unmoved : (gate : List (List Complex)) →
         (let a = gateCall s work q0 q1 gate in a .chain .center ≡ Unknown → StoreLeft (s .chain .«num_qubits») (s .chain .«max_bond_dim») (min p q) (max p q) (s .store) (a .store))
-    unfolding gateCall gateRun
-    gate-unmoved gate = pick (eqb (gateRefusal s work q0 q1 gate) 0) refl
-      where
-        four : Bool
-        four = outside (s .chain) q0 || outside (s .chain) q1 || eqb q0 q1
-
-        pick : (b : Bool) → eqb (gateRefusal s work q0 q1 gate) 0 ≡ b
-            → (let a = cond b (gateAfter (gateRun gate q0 q1 s) (cleared (s .chain) work)) (after (applied.Refused (gateRefusal s work q0 q1 gate)) s work) in
-            a .chain .center ≡ Unknown → StoreLeft (s .chain .«num_qubits») (s .chain .«max_bond_dim») (min p q) (max p q) (s .store) (a .store))
-        pick true e c =
-            let x = passes four (not (allFinite gate)) e in
-            let h = passes-sound (s .chain) (x .three) in
-            let f = decides-false (decides-pair (s .chain) q0 q1) (x .four) in
-            apart-left (runSteps-unmoved (min p q) (max p q) (stepsOf gate (routeOf p q)) s h (not-short s work (x .two) .amplitudes) (gate-inside (s .chain) q0 q1 gate h f)
-            (route-spans (min p q) (max p q) gate p q (not-pair h f .two) (omega arith) (omega arith)) .apart c)
-        pick false e c = record { slots = λ j o. refl; past = refl; long = refl }
+    unfolding gateCall
+    gate-unmoved gate =
+        by-test (λ (a : After Applied). a .chain .center ≡ Unknown → StoreLeft (s .chain .«num_qubits») (s .chain .«max_bond_dim») (min p q) (max p q) (s .store) (a .store))
+        (eqb (gateRefusal s work q0 q1 gate) 0) _ _ (λ e c. apart-left (run-unmoved gate (gate-accepted s work q0 q1 gate e) .apart c)) (λ e c. record { slots = λ j o. refl; past = refl; long = refl })
 
     pub named-leaves : (name : NamedGate) → (let a = namedGateCall s work q0 q1 name in Leaves s work (min p q) (max p q) (viewApplied (a .answer) .number) a)
     unfolding namedGateCall

@@ -1,7 +1,7 @@
 -- The cut element by element: Θ as a sum over the middle bond, the gate on it, the matrix and its conjugate transpose, the four site fills, and the new bond.
 -- (Vidal 2003, equations 8 to 12; Schollwöck 2011, 4.3.1 and 7.1.)
 use Prim.Native.Nat.{ℕ, _+_, _*_, _≤_, _<_}
-use mathlib.Core.Path.{_≡_, refl, ap, _∙_}
+use mathlib.Core.Path.{_≡_, refl, sym, ap, _∙_}
 use mathlib.Core.List.{List}
 use native.Mathlib.Omega.{arith}
 use lib.ListN.{length}
@@ -19,11 +19,11 @@ use Rattle.model.specs.Slots.{State, amplitude}
 use Rattle.model.specs.Svd.{svd, values}
 use Rattle.model.specs.Truncation.{rank}
 use Rattle.model.specs.Cut.{Ran, adjacent}
-use Rattle.model.specs.Laws.CutCases.{Ends, over, overAgain, nan, stored, ends, ready, rankOf, cutSvd, cutDone, ready-keeps}
-use Rattle.model.specs.Laws.MoveFrame.{epsilon-fixed, cap-fixed}
-use Rattle.model.specs.Laws.BondsShrink.{Fit}
-use Rattle.model.specs.Laws.RunFit.{ready-shrinks}
 use Rattle.model.specs.Pair.{theta, gated, gatedTheta, matrixOf, adjointOf, pairSvd, isometrySite, scaledSite, vtSite, scaledVtSite}
+use Rattle.model.specs.Statements.Table.{preparedFor, rankOf}
+use Rattle.model.specs.Statements.Demand1Cuts.{madeIn, cutSvd}
+use Rattle.model.specs.Laws.SoundFacts.{Sound}
+use Rattle.model.specs.Laws.CutEnds.{cutAt, CutEnds, above, first-nan, second-nan, stored, adjacent-ends, made-narrowed}
 
 -- ---- formulas
 
@@ -169,34 +169,27 @@ module _ (chi br : ℕ) (vt : ℕ → ℕ → Complex) where
 
 -- ---- the new bond is the rank that the rule keeps, in the records of both sites
 
-pub rank-most : (epsilon : Float) (most : ℕ) (s : List Float) → rank epsilon most s ≤ most
-unfolding rank
-rank-most epsilon most s = omega arith
-
 -- the bond between sites k and k + 1 is b
 abbrev pub Bond : Chain → ℕ → ℕ → Type 0
 Bond c k b = (bondRight c k ≡ b) × (bondLeft c (k + 1) ≡ b)
 
-pub done-bond : (gate : List (List Complex)) (k : ℕ) (s : State) → Fit (s .chain) → k + 1 < s .chain .«num_qubits» → Bond (cutDone gate k s .chain) k (rankOf s (cutSvd gate k s))
-unfolding cutDone
-done-bond gate k s f h =
-    let p = ready gate k s in
-    let d = cutSvd gate k s in
-    let x = ready-shrinks gate k s f h in
-    let l : k + 1 < p .state .chain .«num_qubits» = rw (x .qubits) h in
-    let a : p .state .chain .«num_qubits» ≤ length (p .state .chain .«bond_right») = x .fit .long-right in
-    let b : p .state .chain .«num_qubits» ≤ length (p .state .chain .«bond_left») = x .fit .long-left in
-    let e : rankOf (p .state) d ≡ rankOf s d = λ i. rank (ready-keeps _ epsilon-fixed gate k s i) (ready-keeps _ cap-fixed gate k s i) (values d) in (
-      getD-set-same (p .state .chain .«bond_right») k (rankOf (p .state) d) 0 (omega arith) ∙ e,
-      getD-set-same (p .state .chain .«bond_left») (k + 1) (rankOf (p .state) d) 0 (omega arith) ∙ e,
-    )
+module _ (gate : List (List Complex)) (k : ℕ) (s : State) (h : Sound (s .chain)) (inside : k + 1 < s .chain .«num_qubits») where
+  stored-bond : Bond (cutAt gate k (madeIn gate k s) .chain) k (rankOf s (cutSvd gate k s))
+  stored-bond =
+      let t = preparedFor k (madeIn gate k s) .state in
+      let d = cutSvd gate k s in
+      let x = made-narrowed gate k s h inside in
+      let e : rankOf t d ≡ rankOf s d = λ i. rank (x .rest .epsilon i) (x .rest .cap i) (values d) in
+      let most : s .chain .«num_qubits» ≤ 64 = h .settings .qubits .1 in (
+        getD-set-same (t .chain .«bond_right») k (rankOf t d) 0 (omega (arith, x .sound .sizes .rights)) ∙ e,
+        getD-set-same (t .chain .«bond_left») (k + 1) (rankOf t d) 0 (omega (arith, x .sound .sizes .lefts)) ∙ e,
+      )
 
-pub cut-bond : (gate : List (List Complex)) (k : ℕ) (s : State) → Fit (s .chain) → k + 1 < s .chain .«num_qubits» → adjacent gate k s .refused ≡ 0
-    → Bond (adjacent gate k s .state .chain) k (rankOf s (cutSvd gate k s))
-cut-bond gate k s f h = by-end (adjacent gate k s) (ends gate k s)
-  where
-    by-end : (r : Ran) → Ends gate k s r → r .refused ≡ 0 → Bond (r .state .chain) k (rankOf s (cutSvd gate k s))
-    by-end r (over w) z = absurd (omega arith)
-    by-end r (overAgain u v w) z = absurd (omega arith)
-    by-end r (nan v w) z = absurd (omega arith)
-    by-end r (stored v w) z = done-bond gate k s f h
+  pub cut-bond : adjacent gate k s .refused ≡ 0 → Bond (adjacent gate k s .state .chain) k (rankOf s (cutSvd gate k s))
+  cut-bond z = cases (adjacent-ends gate k s h inside)
+    where
+      cases : CutEnds gate k s (adjacent gate k s) → Bond (adjacent gate k s .state .chain) k (rankOf s (cutSvd gate k s))
+      cases (above a e) = absurd (omega (arith, sym z ∙ ap (λ (r : Ran). r .refused) e))
+      cases (first-nan a n e) = absurd (omega (arith, sym z ∙ ap (λ (r : Ran). r .refused) e))
+      cases (second-nan a n e) = absurd (omega (arith, sym z ∙ ap (λ (r : Ran). r .refused) e))
+      cases (stored a n n′ m e) = rw e stored-bond

@@ -1,136 +1,166 @@
--- The discarded weight: the shares of the stored cuts, added from the left in the order of the cuts.
-use Prim.Native.Nat.{ℕ}
-use mathlib.Core.Path.{_≡_, refl, sym, ap, _∙_}
+-- The discarded weight is the shares of the stored cuts, added from the left in the order of the cuts: the proof of (e). Other calls leave it, and the labels, as they were.
+use Prim.Native.Nat.{ℕ, _+_, _<_}
+use mathlib.Core.Path.{_≡_, refl, sym, ap, _∙_, subst}
 use mathlib.Core.Bool.{Bool, true, false, cond}
 use mathlib.Core.List.{List, [], _∷_, _++_, foldl}
 use lib.Dec.{eqb}
+use borrow.Author.Tests.{eqb-false}
 use lib.Ieee.{Float, binary64, add}
 use Rattle.complex.specs.declared.Complex.{Complex}
+use Rattle.gates.specs.Named.{matrixOf}
+use Rattle.model.specs.declared.Answer.{Answer}
+use Rattle.model.specs.declared.Applied.the-variants as applied
+use Rattle.model.specs.declared.Measured.{Measured}
+use Rattle.model.specs.declared.Projected.{Projected}
 use Rattle.model.specs.declared.Chain.{Chain}
 use Rattle.model.specs.Chain.{siteOf}
 use Rattle.model.specs.Slots.{State}
 use Rattle.model.specs.Svd.{values}
 use Rattle.model.specs.Truncation.{rank, share, recorded}
 use Rattle.model.specs.Cut.{Ran, ran, adjacent}
-use Rattle.model.specs.Routing.{Step, relabelled, routeOf, stepsOf, follow, stepped, runSteps, gateRun}
-use Rattle.gates.specs.Named.{matrixOf}
-use Rattle.model.specs.declared.Applied.the-variants as applied
-use Rattle.model.specs.Calls.{after, cleared, gateRefusal, gateAfter, gateCall, namedGateCall}
-use Rattle.model.specs.Lists.{Call, gate, named, project, measure, reset, left, stateOf, finalState}
-use Rattle.model.specs.Laws.MoveFrame.{discarded-fixed, epsilon-fixed, cap-fixed, cond-both, established-keeps}
-use Rattle.model.specs.Laws.CallFrame.{project-keeps, measure-keeps, reset-keeps}
-use Rattle.model.specs.Laws.CutCases.{Ends, over, overAgain, nan, stored, ends, rankOf, cutSvd, cutDone, relabelledBy, ready-keeps}
+use Rattle.model.specs.Routing.{Step, relabelled, follow, stepped, runSteps, gateRun}
+use Rattle.model.specs.Born.{drawnAt, readied}
+use Rattle.model.specs.Sound.{sound}
+use Rattle.model.specs.Calls.{After, after, gateAfter, cleared, gateRefusal, gateCall, namedGateCall, projectRefusal, projectCall, measureRefusal, measureCall, resetRefusal, resetCall}
+use Rattle.model.specs.Lists.{gate, named, project, measure, reset, left, stateOf}
+use Rattle.model.specs.Statements.Table.{gateSteps}
+use Rattle.model.specs.Statements.Demand1Cuts.{cutSvd, cutShare, madeIn, sharesOf, gateShares, callShares, listShares, discarded, WeightOfCall, WeightOfList, labelsOf}
+use Rattle.model.specs.Laws.SoundFacts.{Sound}
+use Rattle.model.specs.Laws.Refusals.{AcceptedReading, project-passes, measure-passes, reset-passes}
+use Rattle.model.specs.Laws.SoundKept.{gate-accepted, Inside, stepped-keeps, readied-narrowed, projectedAt-chain, resetAt-chain, relabelledBy}
+use Rattle.model.specs.Laws.CutEnds.{cutAt, CutEnds, above, first-nan, second-nan, stored, adjacent-ends, made-narrowed, refused-narrowed}
+use Rattle.model.specs.Laws.Tests.{by-test, either-way}
 
--- ---- the shares of a run's stored cuts, in order
+-- ---- shares added from the left
 
--- what a cut of the pair k, k + 1 records if it is stored: the share of its values past the kept rank; nothing where nothing is dropped, or the total is at most 0
-abbrev pub cutShare : List (List Complex) → ℕ → State → List Float
-cutShare g k s = let d = cutSvd g k s in share (values d) (rankOf s d)
+abbrev added : Float → List Float → Float
+added = foldl (add binary64)
 
--- a step that is refused stores no cut and ends the run
-unfoldable pub sharesOf : List Step → State → List Float
-sharesOf [] s = []
-sharesOf (x ∷ xs) s = cond (eqb (stepped x s .refused) 0) (cutShare (x .gate) (x .site) s ++ sharesOf xs (stepped x s .state)) []
+recorded-added : (d : Float) (xs : List Float) → recorded d xs ≡ added d xs
+recorded-added d [] = refl
+recorded-added d (x ∷ xs) = recorded-added (add binary64 d x) xs
 
--- the shares of the cuts of a gate on the qubits q0 and q1, its swaps' included
-abbrev pub gateShares : List (List Complex) → ℕ → ℕ → State → List Float
-gateShares g q0 q1 s = sharesOf (stepsOf g (routeOf (siteOf (s .chain) q0) (siteOf (s .chain) q1))) s
-
-abbrev pub discarded : State → Float
-discarded s = s .chain .«truncation_discarded»
-
--- ---- `recorded` is the left fold of add
-
-pub recorded-fold : (d : Float) (xs : List Float) → recorded d xs ≡ foldl (add binary64) d xs
-recorded-fold d [] = refl
-recorded-fold d (x ∷ xs) = recorded-fold (add binary64 d x) xs
-
-pub recorded-append : (d : Float) (xs ys : List Float) → recorded d (xs ++ ys) ≡ recorded (recorded d xs) ys
-recorded-append d [] ys = refl
-recorded-append d (x ∷ xs) ys = recorded-append (add binary64 d x) xs ys
-
--- ---- a centre move records nothing, and leaves the settings
+added-append : (d : Float) (xs ys : List Float) → added d (xs ++ ys) ≡ added (added d xs) ys
+added-append d [] ys = refl
+added-append d (x ∷ xs) ys = added-append (add binary64 d x) xs ys
 
 -- ---- one step
 
 -- a run's weight: that before, and the shares if it was not refused
-abbrev weighed : List Float → State → Ran → Type 0
-weighed shares s r = discarded (r .state) ≡ cond (eqb (r .refused) 0) (recorded (discarded s) shares) (discarded s)
+abbrev Weighed : List Float → State → Ran → Type 0
+Weighed shares s r = discarded (r .state) ≡ cond (eqb (r .refused) 0) (added (discarded s) shares) (discarded s)
 
-done-discarded : (g : List (List Complex)) (k : ℕ) (s : State) → discarded (cutDone g k s) ≡ recorded (discarded s) (cutShare g k s)
-unfolding cutDone
-done-discarded g k s =
-    let d = cutSvd g k s in
-    λ i. recorded (ready-keeps _ discarded-fixed g k s i) (share (values d) (rank (ready-keeps _ epsilon-fixed g k s i) (ready-keeps _ cap-fixed g k s i) (values d)))
+module _ (x : Step) (s : State) (h : Sound (s .chain)) (inside : x .site + 1 < s .chain .«num_qubits») where
+  stored-discarded : discarded (cutAt (x .gate) (x .site) (madeIn (x .gate) (x .site) s)) ≡ added (discarded s) (cutShare (x .gate) (x .site) s)
+  stored-discarded =
+      let d = cutSvd (x .gate) (x .site) s in
+      let same = made-narrowed (x .gate) (x .site) s h inside .rest in
+      (λ i. recorded (same .discarded i) (share (values d) (rank (same .epsilon i) (same .cap i) (values d)))) ∙ recorded-added (discarded s) (cutShare (x .gate) (x .site) s)
 
-relabels-discarded : (x : Step) (t : State) → discarded (relabelledBy x t) ≡ discarded t
-relabels-discarded x t = cond-both (λ (c : Chain). c .«truncation_discarded» ≡ discarded t) (x .relabels) (relabelled (x .site) (t .chain)) (t .chain) refl refl
+  relabels-discarded : (t : State) → discarded (relabelledBy x t) ≡ discarded t
+  relabels-discarded t = either-way (λ (c : Chain). c .«truncation_discarded» ≡ discarded t) (x .relabels) (relabelled (x .site) (t .chain)) (t .chain) refl refl
 
-step-ends : (x : Step) (s : State) (r : Ran) → Ends (x .gate) (x .site) s r → weighed (cutShare (x .gate) (x .site) s) s (follow r (λ t. ran 0 (relabelledBy x t)))
-step-ends x s r (over h) = refl
-step-ends x s r (overAgain h v w) = established-keeps _ discarded-fixed (x .site) s
-step-ends x s r (nan v h) = ready-keeps _ discarded-fixed (x .gate) (x .site) s
-step-ends x s r (stored v h) = relabels-discarded x (cutDone (x .gate) (x .site) s) ∙ done-discarded (x .gate) (x .site) s
+  abbrev Follows : Ran → Type 0
+  Follows r = Weighed (cutShare (x .gate) (x .site) s) s (follow r (λ t. ran 0 (relabelledBy x t)))
 
-step-discarded : (x : Step) (s : State) → weighed (cutShare (x .gate) (x .site) s) s (stepped x s)
-unfolding stepped
-step-discarded x s = step-ends x s (adjacent (x .gate) (x .site) s) (ends (x .gate) (x .site) s)
+  -- a refused cut leaves the weight
+  refused-follows : (r : Ran) → CutEnds (x .gate) (x .site) s r → eqb (r .refused) 0 ≡ false → Follows r
+  refused-follows r c e = rw (e, e) (refused-narrowed (x .gate) (x .site) s h inside r c (eqb-false (r .refused) 0 e) .rest .discarded)
+
+  step-ends : (r : Ran) → CutEnds (x .gate) (x .site) s r → Follows r
+  step-ends r (above a e) = refused-follows r (above a e) (ap (λ (y : Ran). eqb (y .refused) 0) e)
+  step-ends r (first-nan a n e) = refused-follows r (first-nan a n e) (ap (λ (y : Ran). eqb (y .refused) 0) e)
+  step-ends r (second-nan a n e) = refused-follows r (second-nan a n e) (ap (λ (y : Ran). eqb (y .refused) 0) e)
+  step-ends r (stored a n n′ m e) = subst Follows (sym e) (relabels-discarded (cutAt (x .gate) (x .site) (madeIn (x .gate) (x .site) s)) ∙ stored-discarded)
+
+  step-discarded : Weighed (cutShare (x .gate) (x .site) s) s (stepped x s)
+  unfolding stepped
+  step-discarded = step-ends (adjacent (x .gate) (x .site) s) (adjacent-ends (x .gate) (x .site) s h inside)
 
 -- ---- a run, refused or not
 
-pub run-discarded : (steps : List Step) (s : State) → discarded (runSteps steps s .state) ≡ recorded (discarded s) (sharesOf steps s)
+pub run-discarded : (steps : List Step) (s : State) → Sound (s .chain) → Inside (s .chain .«num_qubits») steps → discarded (runSteps steps s .state) ≡ added (discarded s) (sharesOf steps s)
 unfolding runSteps sharesOf
-run-discarded [] s = refl
-run-discarded (x ∷ xs) s = pick (eqb (stepped x s .refused) 0) refl (run-discarded xs (stepped x s .state))
+run-discarded [] s h inside = refl
+run-discarded (x ∷ xs) s h inside =
+    let y = stepped-keeps x s h (inside .0) in
+    pick (eqb (stepped x s .refused) 0) refl (run-discarded xs (stepped x s .state) (y .sound) (rw (y .qubits) (inside .1)))
   where
     pick : (b : Bool) → eqb (stepped x s .refused) 0 ≡ b
-        → discarded (runSteps xs (stepped x s .state) .state) ≡ recorded (discarded (stepped x s .state)) (sharesOf xs (stepped x s .state))
+        → discarded (runSteps xs (stepped x s .state) .state) ≡ added (discarded (stepped x s .state)) (sharesOf xs (stepped x s .state))
         → discarded (cond b (runSteps xs (stepped x s .state)) (stepped x s) .state)
-        ≡ recorded (discarded s) (cond b (cutShare (x .gate) (x .site) s ++ sharesOf xs (stepped x s .state)) [])
-    pick true e h =
-        h ∙ ap (λ (w : Float). recorded w (sharesOf xs (stepped x s .state))) (rw e at (step-discarded x s))
-        ∙ sym (recorded-append (discarded s) (cutShare (x .gate) (x .site) s) (sharesOf xs (stepped x s .state)))
-    pick false e h = rw e at (step-discarded x s)
+        ≡ added (discarded s) (cond b (cutShare (x .gate) (x .site) s ++ sharesOf xs (stepped x s .state)) [])
+    pick true e z =
+        z ∙ ap (λ (w : Float). added w (sharesOf xs (stepped x s .state))) (rw e at (step-discarded x s h (inside .0)))
+        ∙ sym (added-append (discarded s) (cutShare (x .gate) (x .site) s) (sharesOf xs (stepped x s .state)))
+    pick false e z = rw e at (step-discarded x s h (inside .0))
 
-pub gate-discarded : (g : List (List Complex)) (q0 q1 : ℕ) (s : State) → discarded (gateRun g q0 q1 s .state) ≡ recorded (discarded s) (gateShares g q0 q1 s)
-unfolding gateRun
-gate-discarded g q0 q1 s = run-discarded _ s
+-- ---- the calls that are no gates: they change the bonds, the centre and the flags at most
 
--- ---- a call, refused or not: only a gate that is not refused by 3, 2, 4 or 5 stores cuts
+pub record Reads (c c′ : Chain) : Type 0 where
+  pub labels : labelsOf c′ ≡ labelsOf c
+  pub weight : c′ .«truncation_discarded» ≡ c .«truncation_discarded»
 
-unfoldable pub callShares : Call → State → List Float
-callShares (gate q0 q1 g work) s = cond (eqb (gateRefusal s work q0 q1 g) 0) (gateShares g q0 q1 s) []
-callShares (named q0 q1 name work) s = cond (eqb (gateRefusal s work q0 q1 (matrixOf name)) 0) (gateShares (matrixOf name) q0 q1 s) []
-callShares (project q o work) s = []
-callShares (measure q flag draw work) s = []
-callShares (reset q draw work) s = []
+reads-none : (c : Chain) → Reads c c
+reads-none c = record { labels = refl; weight = refl }
 
-gate-call-discarded : (q0 q1 : ℕ) (g : List (List Complex)) (work : List Float) (s : State)
-    → discarded (left (gateCall s work q0 q1 g)) ≡ recorded (discarded s) (cond (eqb (gateRefusal s work q0 q1 g) 0) (gateShares g q0 q1 s) [])
-unfolding gateCall
-gate-call-discarded q0 q1 g work s = pick (eqb (gateRefusal s work q0 q1 g) 0)
+module _ (s : State) (work : List Float) where
+  -- with the centre on the site of a qubit of the chain
+  readied-reads : (q : ℕ) → AcceptedReading s work q → Reads (s .chain) (readied (siteOf (s .chain) q) s .chain)
+  readied-reads q a =
+      let x = readied-narrowed (siteOf (s .chain) q) s (a .sound) (a .site-below) .rest in
+      record { labels = λ i. record { sites = x .sites i; qubits = x .labels i }; weight = x .discarded }
+
+  pub project-reads : (q : ℕ) (o : Bool) → Reads (s .chain) (projectCall s work q o .chain)
+  unfolding projectCall
+  project-reads q o =
+      let k = siteOf (s .chain) q in
+      by-test (λ (a : After Projected). Reads (s .chain) (a .chain)) (eqb (projectRefusal s work q) 0) _ _
+      (λ e. rw (projectedAt-chain k o (readied k s)) (readied-reads q (project-passes s work q e)))
+      (λ e. reads-none (s .chain))
+
+  pub measure-reads : (q flag : ℕ) (draw : Float) → Reads (s .chain) (measureCall s work q flag draw .chain)
+  unfolding measureCall
+  measure-reads q flag draw =
+      let k = siteOf (s .chain) q in
+      by-test (λ (a : After Measured). Reads (s .chain) (a .chain)) (eqb (measureRefusal s work q flag draw) 0) _ _
+      (λ e.
+      let x = readied-reads q (measure-passes s work q flag draw e) in
+      let same = projectedAt-chain k (drawnAt k draw (readied k s)) (readied k s) in
+      record { labels = ap labelsOf same ∙ x .labels; weight = ap (λ (c : Chain). c .«truncation_discarded») same ∙ x .weight })
+      (λ e. reads-none (s .chain))
+
+  pub reset-reads : (q : ℕ) (draw : Float) → Reads (s .chain) (resetCall s work q draw .chain)
+  unfolding resetCall
+  reset-reads q draw =
+      let k = siteOf (s .chain) q in
+      by-test (λ (a : After Answer). Reads (s .chain) (a .chain)) (eqb (resetRefusal s work q draw) 0) _ _
+      (λ e. rw (resetAt-chain k (drawnAt k draw (readied k s)) (readied k s)) (readied-reads q (reset-passes s work q draw e)))
+      (λ e. reads-none (s .chain))
+
+-- ---- a call, and a list of calls
+
+gate-discarded : (s : State) (work : List Float) (q0 q1 : ℕ) (g : List (List Complex)) → discarded (left (gateCall s work q0 q1 g)) ≡ added (discarded s) (gateShares s work q0 q1 g)
+unfolding gateCall gateRun
+gate-discarded s work q0 q1 g = pick (eqb (gateRefusal s work q0 q1 g) 0) refl
   where
-    pick : (b : Bool)
+    pick : (b : Bool) → eqb (gateRefusal s work q0 q1 g) 0 ≡ b
         → discarded (left (cond b (gateAfter (gateRun g q0 q1 s) (cleared (s .chain) work)) (after (applied.Refused (gateRefusal s work q0 q1 g)) s work)))
-        ≡ recorded (discarded s) (cond b (gateShares g q0 q1 s) [])
-    pick true = gate-discarded g q0 q1 s
-    pick false = refl
+        ≡ added (discarded s) (cond b (sharesOf (gateSteps s q0 q1 g) s) [])
+    pick true e = let x = gate-accepted s work q0 q1 g e in run-discarded (gateSteps s q0 q1 g) s (x .sound) (x .inside)
+    pick false e = refl
 
-pub call-discarded : (c : Call) (s : State) → discarded (stateOf c s) ≡ recorded (discarded s) (callShares c s)
-unfolding callShares namedGateCall
-call-discarded (gate q0 q1 g work) s = gate-call-discarded q0 q1 g work s
-call-discarded (named q0 q1 name work) s = gate-call-discarded q0 q1 (matrixOf name) work s
-call-discarded (project q o work) s = project-keeps _ discarded-fixed s work q o
-call-discarded (measure q flag draw work) s = measure-keeps _ discarded-fixed s work (λ c bits. refl) q flag draw
-call-discarded (reset q draw work) s = reset-keeps _ discarded-fixed s work q draw
+pub weight-of-call : WeightOfCall
+unfolding WeightOfCall callShares namedGateCall
+weight-of-call (gate q0 q1 g work) s = gate-discarded s work q0 q1 g
+weight-of-call (named q0 q1 name work) s = gate-discarded s work q0 q1 (matrixOf name)
+weight-of-call (project q o work) s = project-reads s work q o .weight
+weight-of-call (measure q flag draw work) s = measure-reads s work q flag draw .weight
+weight-of-call (reset q draw work) s = reset-reads s work q draw .weight
 
--- a list of calls
-abbrev pub listShares : List Call → State → List Float
-listShares [] s = []
-listShares (c ∷ cs) s = callShares c s ++ listShares cs (stateOf c s)
-
-pub list-discarded : (cs : List Call) (s : State) → discarded (finalState cs s) ≡ recorded (discarded s) (listShares cs s)
-list-discarded [] s = refl
-list-discarded (c ∷ cs) s =
-    list-discarded cs (stateOf c s) ∙ ap (λ (w : Float). recorded w (listShares cs (stateOf c s))) (call-discarded c s)
-    ∙ sym (recorded-append (discarded s) (callShares c s) (listShares cs (stateOf c s)))
+pub weight-of-list : WeightOfList
+unfolding WeightOfList WeightOfCall
+weight-of-list [] s = refl
+weight-of-list (c ∷ cs) s =
+    weight-of-list cs (stateOf c s) ∙ ap (λ (w : Float). added w (listShares cs (stateOf c s))) (weight-of-call c s)
+    ∙ sym (added-append (discarded s) (callShares c s) (listShares cs (stateOf c s)))

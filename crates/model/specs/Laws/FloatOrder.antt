@@ -3,13 +3,14 @@ use mathlib.Core.Path.{_≡_, refl, sym, ap, _∙_}
 use mathlib.Core.Logic.{_⊎_, inl, inr, ⊎-elim}
 use mathlib.Core.Bool.{Bool, true, false, not, _&&_, _||_, true≢false, and-false}
 use Prim.Native.Nat.{ℕ, _+_, _*_, _≤_, _<_}
-use native.Mathlib.Nat.{eq-or-lt-of-le, eq-zero-or-pos, mul-le-mul-right, le-of-mul-le-mul-right, zero-mul, add-zero, zero-add}
+use native.Mathlib.Nat.{eq-zero-or-pos, mul-le-mul-right, le-of-mul-le-mul-right, zero-mul, add-zero, zero-add}
 use native.Mathlib.Omega.{arith}
 use lib.Dec.{T, ltb, leb, eqb, leb→le, le→leb, T-not}
 use lib.IntN.{ℤ}
 use lib.Ieee.{Float, nan, inf, fin, up, down, below, level, lt, eq, le, isNan}
 use lib.Ieee.Fits.{down-pos}
-use borrow.Author.Tests.{leb-true, leb-false, lt-ltb, le-ltb, le-leb, lt-leb, eq-eqb, ne-eqb}
+use borrow.Author.Tests.{lt-ltb, le-ltb, le-leb, lt-leb, eq-eqb, ne-eqb}
+use Rattle.model.specs.Laws.Tests.{or-first, trichotomy}
 
 -- ---- comparing ±a with ±b: the positive parts on one side against the negative parts on the other
 
@@ -20,13 +21,6 @@ plus true a = 0
 abbrev minus : Bool → ℕ → ℕ
 minus false a = 0
 minus true a = a
-
-pub trichotomy : (a b : ℕ) → (a < b) ⊎ ((a ≡ b) ⊎ (b < a))
-trichotomy a b = either (leb a b) refl
-  where
-    either : (c : Bool) → leb a b ≡ c → (a < b) ⊎ ((a ≡ b) ⊎ (b < a))
-    either true e = ⊎-elim (λ (h : a ≡ b). inr (inl h)) (λ (h : a < b). inl h) (eq-or-lt-of-le (leb-true a b e))
-    either false e = inr (inr (leb-false a b e))
 
 less-or-level : (a b : ℕ) → (ltb a b || (eqb a b && true)) ≡ leb a b
 less-or-level a b =
@@ -175,11 +169,7 @@ lt-not-le (fin s m e) (fin t n d) p q = finite-lt-not-le s m e t n d
 
 pub lt-le : (x y : Float) → T (lt x y) → T (le x y)
 unfolding le
-lt-le x y h = either (lt x y) (eq x y) h
-  where
-    either : (a b : Bool) → T a → T (a || b)
-    either true b h = tt
-    either false b h = absurd h
+lt-le x y h = or-first (lt x y) (eq x y) h
 
 pub le-reflexive : (x : Float) → isNan x ≡ false → T (le x x)
 unfolding le lt eq isNan

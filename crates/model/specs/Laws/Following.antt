@@ -5,12 +5,10 @@ use mathlib.Core.Bool.{Bool, false, cond}
 use mathlib.Core.Logic.{_≢_}
 use mathlib.Core.List.{List, [], _∷_, _++_, map}
 use Prim.Native.Nat.{ℕ, zero, suc, _+_, _-_, _≤_, _<_, min, max}
-use native.Mathlib.Nat.{le-trans}
 use native.Mathlib.Decide.{ℕ-discrete, decLt}
 use native.Mathlib.Omega.{arith}
 use lib.Dec.{ltb}
-use lib.ListN.{length, getD, set, length-set}
-use lib.Seq.{getD-set-same, getD-set-other}
+use lib.ListN.{getD}
 use borrow.Author.Tests.{lt-ltb, le-ltb}
 use Rattle.complex.specs.declared.Complex.{Complex}
 use Rattle.gates.specs.Gate.{swapGateQubits}
@@ -22,129 +20,37 @@ use Rattle.model.specs.Routing.{relabelled, downTo, routeOf, Step, swapS
 use Rattle.model.specs.Phases.{Phase, _⊗_, one}
 use Rattle.model.specs.Machine as machine
 use Rattle.model.specs.Machine.{Machine}
+use Rattle.model.specs.Statements.Demand1Cuts.{Labels, exchanged}
+use Rattle.model.specs.Laws.Labels.{turn, turn-first, turn-second, turn-else, three, turn-turn, Maps, exchanged-site, exchanged-maps}
 use Rattle.model.specs.Laws.Units.{Moves, assoc, comm, one-right}
 use Rattle.model.specs.Laws.Tracked.{Setup, Fit, Tracked, update, update-at, update-else, update2, update2-first, update2-second, update2-else, adjacent-tracked}
 use Rattle.model.specs.Laws.UnitGates.{swap-moves, exchanged-moves, first-read, second-read, phase-read}
+use Rattle.model.specs.Laws.SoundKept.{relabelledBy}
 
 -- ---- two places exchanged
-
-abbrev pub turn : ℕ → ℕ → ℕ
-turn k = update2 k (k + 1) k (λ i. i)
-
-by-cases : (k j : ℕ) (P : ℕ → Type 0) → P k → P (k + 1) → (j ≢ k → j ≢ k + 1 → P j) → P j
-by-cases k j P x y z = go (ℕ-discrete j k) (ℕ-discrete j (k + 1))
-  where
-    go : Dec (j ≡ k) → Dec (j ≡ k + 1) → P j
-    go (yes e) d = subst P (sym e) x
-    go (no m) (yes e) = subst P (sym e) y
-    go (no m) (no n) = z m n
-
-turn-first : (k : ℕ) → turn k k ≡ k + 1
-turn-first k = update2-first k (k + 1) k (λ i. i)
-
-turn-second : (k : ℕ) → turn k (k + 1) ≡ k
-turn-second k = update2-second k (k + 1) k (λ i. i)
-
-turn-else : (k j : ℕ) → j ≢ k → j ≢ k + 1 → turn k j ≡ j
-turn-else k j m n = update2-else k (k + 1) k (λ i. i) j m n
-
-turn-turn : (k j : ℕ) → turn k (turn k j) ≡ j
-turn-turn k j =
-    by-cases k j (λ i. turn k (turn k i) ≡ i)
-    (ap (turn k) (turn-first k) ∙ turn-second k)
-    (ap (turn k) (turn-second k) ∙ turn-first k)
-    (λ m n. ap (turn k) (turn-else k j m n) ∙ turn-else k j m n)
-
-turn-below : (k n j : ℕ) → k + 1 < n → j < n → turn k j < n
-turn-below k n j K =
-    by-cases k j (λ i. i < n → turn k i < n)
-    (λ h. subst (λ (x : ℕ). x < n) (sym (turn-first k)) K)
-    (λ h. subst (λ (x : ℕ). x < n) (sym (turn-second k)) (omega arith))
-    (λ m l h. subst (λ (x : ℕ). x < n) (sym (turn-else k j m l)) h)
 
 -- a function with two values exchanged is the function after the exchange
 exchanged-turn : {X : Type 0} (k : ℕ) (f : ℕ → X) (j : ℕ) → update2 k (f (k + 1)) (f k) f j ≡ f (turn k j)
 exchanged-turn k f j =
-    by-cases k j (λ i. update2 k (f (k + 1)) (f k) f i ≡ f (turn k i))
+    three k j (λ i. update2 k (f (k + 1)) (f k) f i ≡ f (turn k i))
     (update2-first k (f (k + 1)) (f k) f ∙ ap f (sym (turn-first k)))
     (update2-second k (f (k + 1)) (f k) f ∙ ap f (sym (turn-second k)))
     (λ m n. update2-else k (f (k + 1)) (f k) f j m n ∙ ap f (sym (turn-else k j m n)))
 
--- ---- the two label maps, inverse to each other, and their exchange at neighbouring sites
+-- ---- the label maps
 
 abbrev pub label : List ℕ → ℕ → ℕ
 label A q = getD A q 0
 
-pub record Maps (n : ℕ) (A B : List ℕ) : Type 0 where
-  pub long-a : n ≤ length A
-  pub long-b : n ≤ length B
-  pub site-below : (q : ℕ) → q < n → label A q < n
-  pub qubit-below : (k : ℕ) → k < n → label B k < n
-  pub there : (q : ℕ) → q < n → label B (label A q) ≡ q
-  pub back : (k : ℕ) → k < n → label A (label B k) ≡ k
+abbrev pub labels : List ℕ → List ℕ → Labels
+labels A B = record { sites = A; qubits = B }
 
 -- as `relabelled` has them
 abbrev sitesTurned : List ℕ → List ℕ → ℕ → List ℕ
-sitesTurned A B k = set (set A (label B k) (k + 1)) (label B (k + 1)) k
+sitesTurned A B k = exchanged k (labels A B) .sites
 
-abbrev qubitsTurned : List ℕ → ℕ → List ℕ
-qubitsTurned B k = set (set B k (label B (k + 1))) (k + 1) (label B k)
-
-module _ (n : ℕ) (A B : List ℕ) (M : Maps n A B) (k : ℕ) (K : k + 1 < n) where
-  abbrev u : ℕ
-  u = label B k
-
-  abbrev v : ℕ
-  v = label B (k + 1)
-
-  K' : k < n
-  K' = omega arith
-
-  new-site : (q : ℕ) → q < n → label (sitesTurned A B k) q ≡ turn k (label A q)
-  new-site q Q = go (ℕ-discrete q v) (ℕ-discrete q u)
-    where
-      low : u < length A
-      low = le-trans (M .qubit-below k K') (M .long-a)
-
-      high : v < length (set A u (k + 1))
-      high = subst (λ (x : ℕ). v < x) (sym (length-set A u (k + 1))) (le-trans (M .qubit-below (k + 1) K) (M .long-a))
-
-      go : Dec (q ≡ v) → Dec (q ≡ u) → label (sitesTurned A B k) q ≡ turn k (label A q)
-      go (yes e) d =
-          ap (label (sitesTurned A B k)) e ∙ getD-set-same (set A u (k + 1)) v k 0 high
-          ∙ sym (turn-second k) ∙ ap (turn k) (sym (M .back (k + 1) K) ∙ ap (label A) (sym e))
-      go (no f) (yes e) =
-          getD-set-other (set A u (k + 1)) v q k 0 f
-          ∙ ap (label (set A u (k + 1))) e ∙ getD-set-same A u (k + 1) 0 low
-          ∙ sym (turn-first k) ∙ ap (turn k) (sym (M .back k K') ∙ ap (label A) (sym e))
-      go (no f) (no g) =
-          getD-set-other (set A u (k + 1)) v q k 0 f ∙ getD-set-other A u q (k + 1) 0 g
-          ∙ sym (turn-else k (label A q) (λ e. g (sym (M .there q Q) ∙ ap (label B) e)) (λ e. f (sym (M .there q Q) ∙ ap (label B) e)))
-
-  new-qubit : (j : ℕ) → j < n → label (qubitsTurned B k) j ≡ label B (turn k j)
-  new-qubit j J =
-      by-cases k j (λ i. label (qubitsTurned B k) i ≡ label B (turn k i))
-      (getD-set-other (set B k v) (k + 1) k u 0 (omega arith) ∙ getD-set-same B k v 0 low ∙ ap (label B) (sym (turn-first k)))
-      (getD-set-same (set B k v) (k + 1) u 0 high ∙ ap (label B) (sym (turn-second k)))
-      (λ m l. getD-set-other (set B k v) (k + 1) j u 0 l ∙ getD-set-other B k j v 0 m ∙ ap (label B) (sym (turn-else k j m l)))
-    where
-      low : k < length B
-      low = le-trans K' (M .long-b)
-
-      high : k + 1 < length (set B k v)
-      high = subst (λ (x : ℕ). k + 1 < x) (sym (length-set B k v)) (le-trans K (M .long-b))
-
-  maps-turned : Maps n (sitesTurned A B k) (qubitsTurned B k)
-  maps-turned = record {
-    long-a = subst (λ (x : ℕ). n ≤ x) (sym (length-set (set A u (k + 1)) v k ∙ length-set A u (k + 1))) (M .long-a);
-    long-b = subst (λ (x : ℕ). n ≤ x) (sym (length-set (set B k v) (k + 1) u ∙ length-set B k v)) (M .long-b);
-    site-below = λ q Q. subst (λ (x : ℕ). x < n) (sym (new-site q Q)) (turn-below k n (label A q) K (M .site-below q Q));
-    qubit-below = λ j J. subst (λ (x : ℕ). x < n) (sym (new-qubit j J)) (M .qubit-below (turn k j) (turn-below k n j K J));
-    there = λ q Q. ap (label (qubitsTurned B k)) (new-site q Q) ∙ new-qubit (turn k (label A q)) (turn-below k n (label A q) K (M .site-below q Q))
-        ∙ ap (label B) (turn-turn k (label A q)) ∙ M .there q Q;
-    back = λ j J. ap (label (sitesTurned A B k)) (new-qubit j J) ∙ new-site (label B (turn k j)) (M .qubit-below (turn k j) (turn-below k n j K J))
-        ∙ ap (turn k) (M .back (turn k j) (turn-below k n j K J)) ∙ turn-turn k j;
-  }
+abbrev qubitsTurned : List ℕ → List ℕ → ℕ → List ℕ
+qubitsTurned A B k = exchanged k (labels A B) .qubits
 
 -- ---- the phases multiplied from site 0 up
 
@@ -196,7 +102,7 @@ pub record Following (S : Setup) (s : State) (M : Machine) : Type 0 where
   pub bits : ℕ → Bool
   pub phases : ℕ → Phase
   pub tracked : Tracked S sites qubits s bits phases
-  pub maps : Maps (S .qubits) sites qubits
+  pub maps : Maps (S .qubits) (labels sites qubits)
   pub at-bits : (q : ℕ) → q < S .qubits → M .bits q ≡ bits (label sites q)
   pub at-phase : multiplied (S .qubits) phases ≡ M .phase
 
@@ -221,25 +127,25 @@ moved-is g G q0 q1 M =
 -- ---- a route
 
 relabelled-tracked : (S : Setup) (A B : List ℕ) (k : ℕ) (s : State) (b : ℕ → Bool) (p : ℕ → Phase) → Tracked S A B s b p
-    → Tracked S (sitesTurned A B k) (qubitsTurned B k) (held (relabelled k (s .chain)) (s .store)) b p
+    → Tracked S (sitesTurned A B k) (qubitsTurned A B k) (held (relabelled k (s .chain)) (s .store)) b p
 relabelled-tracked S A B k s b p t = record {
   same = t .same;
   lefts-one = t .lefts-one;
   rights-one = t .rights-one;
   holds = t .holds;
-  within = t .within;
+  centre = t .centre;
   high-one = t .high-one;
   none = t .none;
   sites-are = λ i. sitesTurned (t .sites-are i) (t .qubits-are i) k;
-  qubits-are = λ i. qubitsTurned (t .qubits-are i) k;
+  qubits-are = λ i. qubitsTurned (t .sites-are i) (t .qubits-are i) k;
 }
 
 -- a step whose cut is accepted, and what follows it
 accepted-step : (x : Step) (s t : State) → adjacent (x .gate) (x .site) s ≡ ran 0 t → (rest : List Step)
-    → runSteps (x ∷ rest) s ≡ runSteps rest (held (cond (x .relabels) (relabelled (x .site) (t .chain)) (t .chain)) (t .store))
+    → runSteps (x ∷ rest) s ≡ runSteps rest (relabelledBy x t)
 unfolding runSteps stepped
 accepted-step x s t e rest =
-    ap (λ (r : Ran). follow (follow r (λ t. ran 0 (held (cond (x .relabels) (relabelled (x .site) (t .chain)) (t .chain)) (t .store)))) (runSteps rest)) e
+    ap (λ (r : Ran). follow (follow r (λ t. ran 0 (relabelledBy x t))) (runSteps rest)) e
 
 -- where the swaps at the sites k + d, .., k + 1 lead from the site map A, bits b and phases p: the qubits at k and k + d + 1 stand at k and k + 1
 pub record Routed (S : Setup) (A : List ℕ) (b : ℕ → Bool) (p : ℕ → Phase) (d k : ℕ) (s : State) : Type 0 where
@@ -250,20 +156,20 @@ pub record Routed (S : Setup) (A : List ℕ) (b : ℕ → Bool) (p : ℕ → Pha
   pub bits : ℕ → Bool
   pub phases : ℕ → Phase
   pub tracked : Tracked S sites qubits state bits phases
-  pub maps : Maps (S .qubits) sites qubits
+  pub maps : Maps (S .qubits) (labels sites qubits)
   pub kept : (q : ℕ) → q < S .qubits → bits (label sites q) ≡ b (label A q)
   pub near : (q : ℕ) → q < S .qubits → label A q ≡ k → label sites q ≡ k
   pub far : (q : ℕ) → q < S .qubits → label A q ≡ k + d + 1 → label sites q ≡ k + 1
   pub product : multiplied (S .qubits) phases ≡ multiplied (S .qubits) p
 
 -- one swap more, at the site j = k + d + 1, which leaves u
-swap-first : (S : Setup) (d k : ℕ) (A B : List ℕ) (s u : State) (b : ℕ → Bool) (p : ℕ → Phase) → k + suc d + 1 < S .qubits → Maps (S .qubits) A B → adjacent (matrixOf Swap) (k + suc d) s ≡ ran 0 u
+swap-first : (S : Setup) (d k : ℕ) (A B : List ℕ) (s u : State) (b : ℕ → Bool) (p : ℕ → Phase) → k + suc d + 1 < S .qubits → Maps (S .qubits) (labels A B) → adjacent (matrixOf Swap) (k + suc d) s ≡ ran 0 u
     → Routed S (sitesTurned A B (k + suc d)) (update2 (k + suc d) (b (k + suc d + 1)) (b (k + suc d)) b) (update2 (k + suc d) (one ⊗ (p (k + suc d) ⊗ p (k + suc d + 1))) one p) d k
     (held (relabelled (k + suc d) (u .chain)) (u .store))
     → Routed S A b p (suc d) k s
 swap-first S d k A B s u b p J M e r =
     let j = k + suc d in
-    let site1 = new-site (S .qubits) A B M j J in
+    let site1 = exchanged-site (S .qubits) (labels A B) M j J in
     record {
       state = r .state;
       is = λ rest. accepted-step (swapStep (k + suc d)) s u e (map swapStep (downTo k d) ++ rest) ∙ r .is rest;
@@ -280,7 +186,7 @@ swap-first S d k A B s u b p J M e r =
     }
 
 module _ (S : Setup) (D : Fit S) where
-  swaps-routed : (d k : ℕ) (A B : List ℕ) (s : State) (b : ℕ → Bool) (p : ℕ → Phase) → k + d + 1 < S .qubits → Tracked S A B s b p → Maps (S .qubits) A B → Routed S A b p d k s
+  swaps-routed : (d k : ℕ) (A B : List ℕ) (s : State) (b : ℕ → Bool) (p : ℕ → Phase) → k + d + 1 < S .qubits → Tracked S A B s b p → Maps (S .qubits) (labels A B) → Routed S A b p d k s
   swaps-routed zero k A B s b p K t M = record {
     state = s;
     is = λ rest. refl;
@@ -299,8 +205,8 @@ module _ (S : Setup) (D : Fit S) where
       let j = k + suc d in
       let c = adjacent-tracked S D A B b p (matrixOf Swap) swap-moves j K s t in
       swap-first S d k A B s (c .0) b p K M (c .1)
-      (swaps-routed d k (sitesTurned A B j) (qubitsTurned B j) (held (relabelled j (c .0 .chain)) (c .0 .store)) (update2 j (b (j + 1)) (b j) b) (update2 j (one ⊗ (p j ⊗ p (j + 1))) one p)
-      (omega arith) (relabelled-tracked S A B j (c .0) _ _ (c .2)) (maps-turned (S .qubits) A B M j K))
+      (swaps-routed d k (sitesTurned A B j) (qubitsTurned A B j) (held (relabelled j (c .0 .chain)) (c .0 .store)) (update2 j (b (j + 1)) (b j) b) (update2 j (one ⊗ (p j ⊗ p (j + 1))) one p)
+      (omega arith) (relabelled-tracked S A B j (c .0) _ _ (c .2)) (exchanged-maps (S .qubits) (labels A B) M j K))
 
   -- a run is accepted, and leaves the chain following M
   abbrev Done : Ran → Machine → Type 0
@@ -325,7 +231,7 @@ module _ (S : Setup) (D : Fit S) where
     bit-v = ap (t .bits) (sym ev) ∙ sym (t .at-bits v bv)
 
     one-site : (q : ℕ) → q < S .qubits → (w : ℕ) → w < S .qubits → label (t .sites) q ≡ label (t .sites) w → q ≡ w
-    one-site q Q w W e = sym (t .maps .there q Q) ∙ ap (label (t .qubits)) e ∙ t .maps .there w W
+    one-site q Q w W e = sym (t .maps .sites .undone q Q) ∙ ap (label (t .qubits)) e ∙ t .maps .sites .undone w W
 
     apart : u ≢ v
     apart e = let f : k ≡ k + 1 = sym eu ∙ ap (label (t .sites)) e ∙ ev in omega arith
@@ -446,11 +352,11 @@ module _ (S : Setup) (D : Fit S) where
       y = label (t .sites) v
 
       differ : x ≢ y
-      differ e = n (sym (t .maps .there u bu) ∙ ap (label (t .qubits)) e ∙ t .maps .there v bv)
+      differ e = n (sym (t .maps .sites .undone u bu) ∙ ap (label (t .qubits)) e ∙ t .maps .sites .undone v bv)
 
       go : Dec (x < y) → Done (runSteps (stepsOf g (routeOf x y)) s) (movedBy g G u v M)
-      go (yes l) = let c = routed-gate g G x y u v s M l (t .maps .site-below v bv) bu bv t refl refl in (c .0, ap (λ (z : List Step). runSteps z s) (steps-up g x y l) ∙ c .1, c .2)
+      go (yes l) = let c = routed-gate g G x y u v s M l (t .maps .sites .below v bv) bu bv t refl refl in (c .0, ap (λ (z : List Step). runSteps z s) (steps-up g x y l) ∙ c .1, c .2)
       go (no l) =
           let m : y < x = omega (arith, differ) in
-          let c = routed-gate (swapGateQubits g) (exchanged-moves g G) y x v u s M m (t .maps .site-below u bu) bv bu t refl refl in
+          let c = routed-gate (swapGateQubits g) (exchanged-moves g G) y x v u s M m (t .maps .sites .below u bu) bv bu t refl refl in
           (c .0, ap (λ (z : List Step). runSteps z s) (steps-down g x y m) ∙ c .1, following-as (c .0) _ _ (either-order u _ v _ (M .bits) n) refl (c .2))

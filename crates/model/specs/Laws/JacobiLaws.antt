@@ -12,10 +12,11 @@ use lib.Ieee.{Float}
 use Rattle.complex.specs.Loops.{each, between}
 use Rattle.complex.specs.Matrix.{cell-below, cell-column}
 use Rattle.complex.specs.Numbers.{count, at, store, length-store, at-store-same, at-store-other, each-length, each-apart}
-use Rattle.model.specs.Laws.ColumnLaws.{each-since, each-once, each-fixed}
-use Rattle.model.specs.Statements.Factorings.{RotationLaw, Turned, PairLaw, sweptTimes, Converged, Exhausted, Settled, SweepLaw, QuietLaw}
-use Rattle.model.specs.Jacobi.{gram, skipped, rotation, rotatedP, rotatedQ, rotatedPair, rotated, Swept, swept, pairStep, rowOfPairs, sweep, sweeps}
 use Rattle.model.specs.declared.Rotation.{Rotation}
+use Rattle.model.specs.Jacobi.{gram, skipped, rotation, rotatedP, rotatedQ, rotatedPair, rotated, Swept, swept, pairStep, rowOfPairs, sweep, sweeps}
+use Rattle.model.specs.Statements.Factorings.{RotationLaw, Turned, PairLaw, sweptTimes, Converged, Exhausted, Settled, SweepLaw, QuietLaw}
+use Rattle.model.specs.Laws.ColumnLaws.{each-since, each-once, each-fixed}
+use Rattle.model.specs.Laws.Tests.{either-way}
 
 -- ---- two numbers rotated
 
@@ -88,11 +89,6 @@ module _ (t : Rotation) (base m p q : ℕ) (w : List Float) where
         ∙ at-rotatedPair-second t _ _ before (omega (arith, long, cell-below m n q r hr hq))
         ∙ rw (old-p, old-q)
 
-  -- a number of another column
-  pub at-rotated-column : (c r : ℕ) → c ≢ p → c ≢ q → r < m → at (rotated t base m p q w) (base + (c * m + r)) ≡ at w (base + (c * m + r))
-  at-rotated-column c r a b hr =
-      at-rotated-other (base + (c * m + r)) (λ i h e. a (cell-column m c r p i hr h (omega arith))) (λ i h e. b (cell-column m c r q i hr h (omega arith)))
-
 -- ---- a pair of columns
 
 pairStep-turned : (high wide p q : ℕ) (x : Swept) → skipped (gram (x .w) high p q) ≡ false
@@ -129,14 +125,10 @@ module _ (high wide p q : ℕ) (t : Rotation) (w : List Float) (apart : p ≢ q)
 module _ (high wide : ℕ) where
   pub length-pairStep : (p q : ℕ) (x : Swept) → length (pairStep high wide p q x .w) ≡ length (x .w)
   unfolding pairStep
-  length-pairStep p q x = either (skipped (gram (x .w) high p q))
-    where
-      t : Rotation
-      t = rotation (gram (x .w) high p q)
-
-      either : (b : Bool) → length (cond b x (swept true (rotated t (wide * high) wide p q (rotated t 0 high p q (x .w)))) .w) ≡ length (x .w)
-      either true = refl
-      either false = length-rotated t (wide * high) wide p q (rotated t 0 high p q (x .w)) ∙ length-rotated t 0 high p q (x .w)
+  length-pairStep p q x =
+      let t = rotation (gram (x .w) high p q) in
+      either-way (λ (y : Swept). length (y .w) ≡ length (x .w)) (skipped (gram (x .w) high p q)) _ _ refl
+      (length-rotated t (wide * high) wide p q (rotated t 0 high p q (x .w)) ∙ length-rotated t 0 high p q (x .w))
 
   pub length-rowOfPairs : (p : ℕ) (x : Swept) → length (rowOfPairs high wide p x .w) ≡ length (x .w)
   unfolding rowOfPairs between each
@@ -149,11 +141,7 @@ module _ (high wide : ℕ) where
   pub length-sweeps : (limit : ℕ) (w : List Float) → length (sweeps high wide limit w) ≡ length w
   unfolding sweeps
   length-sweeps zero w = refl
-  length-sweeps (suc k) w = either (sweep high wide w .turned) (length-sweeps k (sweep high wide w .w) ∙ length-sweep w)
-    where
-      either : (b : Bool) → length (sweeps high wide k (sweep high wide w .w)) ≡ length w → length (cond b (sweeps high wide k (sweep high wide w .w)) (sweep high wide w .w)) ≡ length w
-      either true h = h
-      either false h = length-sweep w
+  length-sweeps (suc k) w = either-way (λ (y : List Float). length y ≡ length w) (sweep high wide w .turned) _ _ (length-sweeps k (sweep high wide w .w) ∙ length-sweep w) (length-sweep w)
 
 -- ---- a sweep without a rotation
 

@@ -2,7 +2,6 @@
 use Prim.Native.Nat.{ℕ, zero, suc, _+_, _-_, _*_, _≤_, _<_, min, max}
 use mathlib.Core.Path.{_≡_, refl, _∙_}
 use mathlib.Core.Logic.{⊎-elim, _⊎_, inl, inr}
-use mathlib.Core.Bool.{Bool, true, false, cond}
 use mathlib.Core.List.{List}
 use native.Mathlib.Nat.{mul-le-mul, mul-le-mul-right}
 use native.Mathlib.Omega.{arith}
@@ -14,16 +13,19 @@ use Rattle.complex.specs.Parts.{length-put, part-put-before, part-put-after, dr
 use Rattle.complex.specs.Numbers.{numbers, length-numbers}
 use Rattle.complex.specs.Matrix.{rows, length-rows}
 use Rattle.complex.specs.declared.Complex.{Complex}
-use Rattle.model.specs.declared.Center.the-variants.{At}
+use Rattle.model.specs.declared.Center.{Center}
+use Rattle.model.specs.declared.Center.the-variants.{Unknown, At}
 use Rattle.model.specs.declared.Chain.{Chain}
 use Rattle.model.specs.Chain.{bondLeft, bondRight, withCenter, withBond}
 use Rattle.model.specs.Slots.{State, lefts, rights, siteAt, slotRoom, storeRoom, slotOf, filled, withSite}
 use Rattle.model.specs.Qr.{Kept, qr}
 use Rattle.model.specs.Pair.{isometrySite, vtSite}
-use Rattle.model.specs.Moves.{rightMatrix, leftMatrix, absorbedRight, absorbedLeft, stepRight, stepLeft, walkRight, walkLeft, moved, established}
-use Rattle.model.specs.Laws.SoundFacts.{Sound}
-use Rattle.model.specs.Laws.QrRank.{qr-rank-least, qr-rank-most}
-use Rattle.model.specs.Laws.SoundChanges.{after-set, center-sound, bond-sound}
+use Rattle.model.specs.Moves.{rightMatrix, leftMatrix, absorbedRight, absorbedLeft, stepRight, stepLeft, walkRight, walkLeft, moved, established, centeredOn, Prepared, preparedOn}
+use Rattle.model.specs.Born.{readied}
+use Rattle.model.specs.Statements.Table.{keepsCentre, preparedFor}
+use Rattle.model.specs.Laws.SoundFacts.{Sound, left-most, right-most}
+use Rattle.model.specs.Laws.SoundChanges.{after-set, center-sound, bond-sound, qr-rank-least, qr-rank-most}
+use Rattle.model.specs.Laws.Tests.{either-way}
 
 -- ---- the laws
 
@@ -98,7 +100,8 @@ narrowed-none lo hi c h = record {
 pub apart-none : (n d lo hi : ℕ) (x : List Float) → Apart n d lo hi x x
 apart-none n d lo hi x = record { slots = λ k l. refl; past = refl; long = refl }
 
-apart-at : {n d n′ d′ lo hi : ℕ} {x y : List Float} → n ≡ n′ → d ≡ d′ → Apart n d lo hi x y → Apart n′ d′ lo hi x y
+-- the same stores, the chain's size and cap being written otherwise
+pub apart-at : {n d n′ d′ lo hi : ℕ} {x y : List Float} → n ≡ n′ → d ≡ d′ → Apart n d lo hi x y → Apart n′ d′ lo hi x y
 apart-at en ed a = rw (en, ed) at a
 
 -- an index outside a range is outside each range within it
@@ -159,6 +162,9 @@ module _ (s : State) (h : Sound (s .chain)) (k : ℕ) (inside : k + 1 < s .chain
 pub length-filled : (n : ℕ) (xs : List Float) → length xs ≤ n → length (filled n xs) ≡ n
 unfolding filled
 length-filled n xs h = simp (length-append, length-replicate) (omega arith)
+
+pub slot-four : (d : ℕ) → 1 ≤ d → 4 ≤ slotRoom d
+slot-four d h = omega (arith, mul-le-mul h h)
 
 pub site-apart : (n d k : ℕ) (xs store : List Float) → k < n → storeRoom n d ≤ length store → length xs ≤ slotRoom d → Apart n d k k store (withSite d k xs store)
 site-apart n d k xs store inside room fits =
@@ -221,20 +227,14 @@ module _ (k : ℕ) (s : State) (h : Sound (s .chain)) (inside : k + 1 < s .chain
   unfolding stepLeft
   stepLeft-narrowed = bond-narrowed s h k inside (factorsLeft .rank) (rank-left .0) (rank-left .1)
 
-  pub stepRight-bond : (1 ≤ rights (stepRight k s) k) × (rights (stepRight k s) k ≤ rights s k)
-  stepRight-bond = (stepRight-narrowed .sound .bonds .right-range k (omega (arith, stepRight-narrowed .rest .qubits)) .0, stepRight-narrowed .right-most k)
-
-  pub stepLeft-bond : (1 ≤ rights (stepLeft k s) k) × (rights (stepLeft k s) k ≤ rights s k)
-  stepLeft-bond = (stepLeft-narrowed .sound .bonds .right-range k (omega (arith, stepLeft-narrowed .rest .qubits)) .0, stepLeft-narrowed .right-most k)
-
   module _ (room : storeRoom (s .chain .«num_qubits») (s .chain .«max_bond_dim») ≤ length (s .store)) where
     pub stepRight-apart : Apart (s .chain .«num_qubits») (s .chain .«max_bond_dim») k (k + 1) (s .store) (stepRight k s .store)
     unfolding stepRight isometrySite absorbedRight
     stepRight-apart =
         let d = s .chain .«max_bond_dim» in
-        let bl : lefts s k ≤ d = omega (arith, h .bonds .left-range k (omega arith) .1) in
-        let bond : rights s k ≤ d = omega (arith, h .bonds .right-range k (omega arith) .1) in
-        let br : rights s (k + 1) ≤ d = omega (arith, h .bonds .right-range (k + 1) inside .1) in
+        let bl : lefts s k ≤ d = left-most (s .chain) h k (omega arith) in
+        let bond : rights s k ≤ d = right-most (s .chain) h k (omega arith) in
+        let br : rights s (k + 1) ≤ d = right-most (s .chain) h (k + 1) inside in
         let f : factorsRight .rank ≤ d = omega (arith, rank-right .1) in
         pair-apart (s .chain .«num_qubits») d k _ _ (s .store) inside room
         (rows-fit d (lefts s k) (factorsRight .rank) _ bl f)
@@ -244,9 +244,9 @@ module _ (k : ℕ) (s : State) (h : Sound (s .chain)) (inside : k + 1 < s .chain
     unfolding stepLeft vtSite absorbedLeft
     stepLeft-apart =
         let d = s .chain .«max_bond_dim» in
-        let bl : lefts s k ≤ d = omega (arith, h .bonds .left-range k (omega arith) .1) in
-        let bond : rights s k ≤ d = omega (arith, h .bonds .right-range k (omega arith) .1) in
-        let br : rights s (k + 1) ≤ d = omega (arith, h .bonds .right-range (k + 1) inside .1) in
+        let bl : lefts s k ≤ d = left-most (s .chain) h k (omega arith) in
+        let bond : rights s k ≤ d = right-most (s .chain) h k (omega arith) in
+        let br : rights s (k + 1) ≤ d = right-most (s .chain) h (k + 1) inside in
         let f : factorsLeft .rank ≤ d = omega (arith, rank-left .1) in
         pair-apart (s .chain .«num_qubits») d k _ _ (s .store) inside room
         (rows-fit d (lefts s k) (factorsLeft .rank) _ bl f)
@@ -350,11 +350,8 @@ lastSite s = s .chain .«num_qubits» - 1
 module _ (to : ℕ) (s : State) where
   pub established-centre : established to s .chain .center ≡ At to
   unfolding established
-  established-centre = pick (leb (2 * to) (lastSite s))
-    where
-      pick : (b : Bool) → cond b (moved 0 to (moved (lastSite s) 0 s)) (moved (lastSite s) to (moved 0 (lastSite s) s)) .chain .center ≡ At to
-      pick true = moved-centre 0 to (moved (lastSite s) 0 s)
-      pick false = moved-centre (lastSite s) to (moved 0 (lastSite s) s)
+  established-centre =
+      either-way (λ (t : State). t .chain .center ≡ At to) (leb (2 * to) (lastSite s)) _ _ (moved-centre 0 to (moved (lastSite s) 0 s)) (moved-centre (lastSite s) to (moved 0 (lastSite s) s))
 
   module _ (h : Sound (s .chain)) (ht : to < s .chain .«num_qubits») where
     twice-narrowed : (a b : ℕ) → a ≤ lastSite s → b ≤ lastSite s → Narrowed 0 (lastSite s) (s .chain) (moved b to (moved a b s) .chain)
@@ -365,11 +362,8 @@ module _ (to : ℕ) (s : State) where
 
     pub established-narrowed : Narrowed 0 (lastSite s) (s .chain) (established to s .chain)
     unfolding established
-    established-narrowed = pick (leb (2 * to) (lastSite s))
-      where
-        pick : (b : Bool) → Narrowed 0 (lastSite s) (s .chain) (cond b (moved 0 to (moved (lastSite s) 0 s)) (moved (lastSite s) to (moved 0 (lastSite s) s)) .chain)
-        pick true = twice-narrowed (lastSite s) 0 (omega arith) (omega arith)
-        pick false = twice-narrowed 0 (lastSite s) (omega arith) (omega arith)
+    established-narrowed =
+        either-way (λ (t : State). Narrowed 0 (lastSite s) (s .chain) (t .chain)) (leb (2 * to) (lastSite s)) _ _ (twice-narrowed (lastSite s) 0 (omega arith) (omega arith)) (twice-narrowed 0 (lastSite s) (omega arith) (omega arith))
 
     module _ (room : storeRoom (s .chain .«num_qubits») (s .chain .«max_bond_dim») ≤ length (s .store)) where
       twice-apart : (a b : ℕ) → a ≤ lastSite s → b ≤ lastSite s → Apart (s .chain .«num_qubits») (s .chain .«max_bond_dim») 0 (lastSite s) (s .store) (moved b to (moved a b s) .store)
@@ -382,8 +376,24 @@ module _ (to : ℕ) (s : State) where
 
       pub established-apart : Apart (s .chain .«num_qubits») (s .chain .«max_bond_dim») 0 (lastSite s) (s .store) (established to s .store)
       unfolding established
-      established-apart = pick (leb (2 * to) (lastSite s))
-        where
-          pick : (b : Bool) → Apart (s .chain .«num_qubits») (s .chain .«max_bond_dim») 0 (lastSite s) (s .store) (cond b (moved 0 to (moved (lastSite s) 0 s)) (moved (lastSite s) to (moved 0 (lastSite s) s)) .store)
-          pick true = twice-apart (lastSite s) 0 (omega arith) (omega arith)
-          pick false = twice-apart 0 (lastSite s) (omega arith) (omega arith)
+      established-apart =
+          either-way (λ (t : State). Apart (s .chain .«num_qubits») (s .chain .«max_bond_dim») 0 (lastSite s) (s .store) (t .store)) (leb (2 * to) (lastSite s)) _ _
+          (twice-apart (lastSite s) 0 (omega arith) (omega arith)) (twice-apart 0 (lastSite s) (omega arith) (omega arith))
+
+-- ---- what holds however the centre is brought to a site, and to a pair
+
+module _ (P : State → Type 0) (k : ℕ) (s : State) where
+  centeredOn-by : (at : Center) → (at ≡ Unknown → P (established k s)) → ((from : ℕ) → at ≡ At from → P (moved from k s)) → P (centeredOn k at s)
+  centeredOn-by Unknown e m = e refl
+  centeredOn-by (At from) e m = m from refl
+
+  pub readied-by : (s .chain .center ≡ Unknown → P (established k s)) → ((from : ℕ) → s .chain .center ≡ At from → P (moved from k s)) → P (readied k s)
+  readied-by = centeredOn-by (s .chain .center)
+
+  preparedOn-by : (at : Center) → (at ≡ Unknown → P (established k s)) → ((from to : ℕ) → at ≡ At from → k ≤ to → to ≤ k + 1 → P (moved from to s)) → P (preparedOn k at s .state)
+  preparedOn-by Unknown e m = e refl
+  preparedOn-by (At from) e m = either-way (λ (p : Prepared). P (p .state)) (leb from k) _ _ (m from k refl (omega arith) (omega arith)) (m from (k + 1) refl (omega arith) (omega arith))
+
+  -- the pair as a cut takes it: as it stands, or with the centre on it
+  pub prepared-by : P s → (s .chain .center ≡ Unknown → P (established k s)) → ((from to : ℕ) → s .chain .center ≡ At from → k ≤ to → to ≤ k + 1 → P (moved from to s)) → P (preparedFor k s .state)
+  prepared-by as-it-is e m = either-way (λ (p : Prepared). P (p .state)) (keepsCentre k s) _ _ (preparedOn-by (s .chain .center) e m) as-it-is

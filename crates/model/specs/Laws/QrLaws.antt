@@ -17,10 +17,11 @@ use Rattle.complex.specs.Loops.{each, each-none, each-more, each-keeps}
 use Rattle.complex.specs.Matrix.{cell-below, cell-row, cell-column}
 use Rattle.complex.specs.Numbers.{count, at, store, length-store, at-store-same, at-store-other, each-length, each-apart, at-left, at-right}
 use Rattle.complex.specs.declared.Complex.{Complex}
-use Rattle.model.specs.Laws.ColumnLaws.{each-since, each-once, l2Norm-same, length-scaledTo, at-scaledTo, at-scaledTo-other, length-zeroed, at-zeroed, at-zeroed-other}
 use Rattle.model.specs.Columns.{l2Norm, scaledTo, zeroed}
-use Rattle.model.specs.Statements.Factorings.{GramSchmidtLaw, PassLaw, done, rankOf, passesAt, keeps, rAt, qAt, QrLaw}
 use Rattle.model.specs.Qr.{dot, takenAway, entryAt, projectedOn, Passed, passOf, passesOf, Kept, kept, keptOf, columnOf, raised, qr, rankTolerance, passRetain}
+use Rattle.model.specs.Statements.Factorings.{GramSchmidtLaw, PassLaw, done, rankOf, passesAt, keeps, rAt, qAt, QrLaw}
+use Rattle.model.specs.Laws.ColumnLaws.{each-since, each-once, l2Norm-same, length-scaledTo, at-scaledTo, at-scaledTo-other, length-zeroed, at-zeroed, at-zeroed-other}
+use Rattle.model.specs.Laws.Tests.{either-way}
 
 -- number k is none of column c's
 abbrev Off : ℕ → ℕ → ℕ → Type 0
@@ -104,11 +105,7 @@ module _ (high wide j : ℕ) where
     length-passesOf zero previous w = refl
     length-passesOf (suc fuel) previous w =
         let x = passOf high wide rank j w in
-        either (lt (mul binary64 passRetain previous) (x .residual)) _ (length-passesOf fuel (x .residual) (x .w) ∙ length-passOf w)
-      where
-        either : (b : Bool) (y : Passed) → length (y .w) ≡ length w → length (cond b (passOf high wide rank j w) y .w) ≡ length w
-        either true y h = length-passOf w
-        either false y h = h
+        either-way (λ (y : Passed). length (y .w) ≡ length w) (lt (mul binary64 passRetain previous) (x .residual)) _ _ (length-passOf w) (length-passesOf fuel (x .residual) (x .w) ∙ length-passOf w)
 
     -- numbers that are neither of column j nor entries (i, j) of a row below the rank
     module _ (k : ℕ) (off : Off high j k) (apart : (i : ℕ) → i < rank → k ≢ entryAt high wide i j) where
@@ -121,11 +118,7 @@ module _ (high wide j : ℕ) where
       at-passesOf-other zero previous w = refl
       at-passesOf-other (suc fuel) previous w =
           let x = passOf high wide rank j w in
-          either (lt (mul binary64 passRetain previous) (x .residual)) _ (at-passesOf-other fuel (x .residual) (x .w) ∙ at-passOf-other w)
-        where
-          either : (b : Bool) (y : Passed) → at (y .w) k ≡ at w k → at (cond b (passOf high wide rank j w) y .w) k ≡ at w k
-          either true y h = at-passOf-other w
-          either false y h = h
+          either-way (λ (y : Passed). at (y .w) k ≡ at w k) (lt (mul binary64 passRetain previous) (x .residual)) _ _ (at-passOf-other w) (at-passesOf-other fuel (x .residual) (x .w) ∙ at-passOf-other w)
 
 -- ---- one column
 

@@ -1,17 +1,16 @@
 -- Each call answers the number that its table gives.
 use Prim.Native.Nat.{ℕ, zero, suc, _≤_, _<_}
 use native.Mathlib.Omega.{arith}
-use native.Mathlib.Nat.{eq-or-lt-of-le, le-of-suc-le-suc}
-use mathlib.Core.Path.{_≡_, refl, sym, ap, _∙_, subst}
-use mathlib.Core.Logic.{_⊎_, inl, inr, ⊎-elim}
-use mathlib.Core.Bool.{Bool, true, false, not, _&&_, _||_, cond}
+use mathlib.Core.Path.{_≡_, refl, sym, _∙_, subst}
+use mathlib.Core.Logic.{_≢_, _⊎_, inl, inr, ⊎-elim}
+use mathlib.Core.Bool.{Bool, true, false, not, _||_, cond, false≢true}
 use mathlib.Core.List.{List, [], _∷_}
 use lib.Dec.{T, leb, ltb, eqb}
+use borrow.Author.Tests.{leb-false, eqb-false, not-false}
 use lib.ListN.{length}
-use lib.Ieee.{Float, nan, inf, fin, isNan, binary64, div, le, lt}
+use lib.Ieee.{Float, nan, inf, fin, binary64, div, le, lt}
 use lib.Ieee.Scale.{finite}
 use Rattle.complex.specs.Complex.{zeroF, oneF}
-use Rattle.complex.specs.Loops.{each, every}
 use Rattle.complex.specs.declared.Complex.{Complex}
 use Rattle.gates.specs.Gate.{entry}
 use Rattle.gates.specs.Finite.{finiteC, allFinite}
@@ -23,56 +22,18 @@ use Rattle.model.specs.declared.Projected.{Projected}
 use Rattle.model.specs.declared.Projected.the-variants as projected
 use Rattle.model.specs.Chain.{siteOf}
 use Rattle.model.specs.Slots.{State, storeRoom}
-use Rattle.model.specs.Svd.{anyNan}
 use Rattle.model.specs.Sound.{sound, share01, settingsFit}
-use Rattle.model.specs.Answers.{viewAnswer, viewProjected, viewMeasured, viewContracted}
+use Rattle.model.specs.Answers.{viewAnswer, viewApplied, viewProjected, viewMeasured, viewContracted}
 use Rattle.model.specs.Born.{weightAt, totalAt, readied}
 use Rattle.model.specs.Environment.{Env, leftEnv, rightEnv}
 use Rattle.model.specs.Start.{freshChain, freshStore, zeroChain}
-use Rattle.model.specs.Calls.{After, firstOf, short, outside, cleared, started, startCall, projectRefusal, projectAnswer, projectRun, projectCall, measureRefusal, measureRun, measureCall, resetRefusal, resetRun, resetCall, Walked, envRefusal, envRun, envAfter, leftEnvironmentCall, rightEnvironmentCall}
-use Rattle.model.specs.Laws.SoundFacts.{settings-facts, facts-settings, sound-facts, facts-sound}
+use Rattle.model.specs.Calls.{After, appliedOf, firstOf, short, outside, cleared, started, startCall, projectRefusal, projectAnswer, projectRun, projectCall, measureRefusal, measureRun, measureCall, resetRefusal, resetRun, resetCall, Walked, envRefusal, envRun, envAfter, leftEnvironmentCall, rightEnvironmentCall}
+use Rattle.model.specs.Statements.Demand1.{Early, Late}
 use Rattle.model.specs.Statements.Table.{Row, _when_, FirstGround, OutOfRange, ShortStore, ShortSlice, Unsound, NoQubit, NotFinite, NoGate, NoDraw, startTable, projectTable, measureTable, resetTable, environmentTable}
-
--- ---- a test that decides a ground
-
-pub record Decides (b : Bool) (P : Type 0) : Type 0 where
-  pub holds : T b → P
-  pub fails : P → T b
-
-pub decides-below : (a b : ℕ) → Decides (ltb a b) (a < b)
-decides-below a b = record { holds = lib.Dec.ltb→lt a b; fails = lib.Dec.lt→ltb a b }
-
-pub decides-least : (a b : ℕ) → Decides (leb a b) (a ≤ b)
-decides-least a b = record { holds = lib.Dec.leb→le a b; fails = lib.Dec.le→leb a b }
-
-pub decides-equal : (a b : ℕ) → Decides (eqb a b) (a ≡ b)
-decides-equal a b = record { holds = lib.Dec.eqb→eq a b; fails = λ e. rw e (lib.Dec.eqb-refl b) }
-
-pub decides-either : {a b : Bool} {P Q : Type 0} → Decides a P → Decides b Q → Decides (a || b) (P ⊎ Q)
-decides-either {a = true} p q = record { holds = λ t. inl (p .holds tt); fails = λ x. tt }
-decides-either {a = false} p q = record { holds = λ t. inr (q .holds t); fails = ⊎-elim (λ x. absurd (p .fails x)) (q .fails) }
-
-pub decides-not : {b : Bool} {P : Type 0} → Decides b P → Decides (not b) (P → ⊥)
-decides-not {b = true} p = record { holds = absurd; fails = λ f. f (p .holds tt) }
-decides-not {b = false} p = record { holds = λ t x. p .fails x; fails = λ f. tt }
-
-pub decides-both : {a b : Bool} {P Q : Type 0} → Decides a P → Decides b Q → Decides (a && b) (P × Q)
-decides-both {a = true} p q = record { holds = λ t. (p .holds tt, q .holds t); fails = λ x. q .fails (x .1) }
-decides-both {a = false} p q = record { holds = absurd; fails = λ x. p .fails (x .0) }
-
--- the same ground in other words
-pub decides-as : {b : Bool} {P Q : Type 0} → Decides b P → (P → Q) → (Q → P) → Decides b Q
-decides-as p to back = record { holds = λ t. to (p .holds t); fails = λ x. p .fails (back x) }
-
-pub decides-self : (b : Bool) → Decides b (T b)
-decides-self b = record { holds = λ t. t; fails = λ t. t }
+use Rattle.model.specs.Laws.SoundFacts.{Sound, settings-facts, facts-settings, sound-facts, facts-sound}
+use Rattle.model.specs.Laws.Tests.{not-and, Decides, by-test, decides-as, decides-below, decides-both, decides-either, decides-least, decides-not, decides-self, decides-some, neither}
 
 -- ---- the first of the rows
-
--- a row's number where its test is true, and else what the rows after it answer
-pub first-row : {b : Bool} {P : Type 0} (rs : List Row) (m k : ℕ) → Decides b P → (b ≡ false → FirstGround rs k) → FirstGround (m when P ∷ rs) (cond b m k)
-first-row {b = true} rs m k p rest = inl (p .holds tt, refl)
-first-row {b = false} rs m k p rest = inr (p .fails, rest refl)
 
 -- a table gives one number
 pub first-unique : (rs : List Row) (k m : ℕ) → FirstGround rs k → FirstGround rs m → k ≡ m
@@ -108,39 +69,9 @@ number-picked f k m x y p q = pick (eqb k 0)
     pick true = p
     pick false = q
 
--- ---- a test of every number below n, and of some
-
-pub decides-some : (n : ℕ) (p : ℕ → Bool) (P : ℕ → Type 0) → ((k : ℕ) → Decides (not (p k)) (P k)) → Decides (not (every n p)) ((k : ℕ) × (k < n) × P k)
-unfolding every
-decides-some zero p P h = record { holds = absurd; fails = λ x. absurd (omega (arith, x .1)) }
-decides-some (suc n) p P h = more (every n p) (p n) (decides-some n p P h) (h n)
-  where
-    more : (a b : Bool) → Decides (not a) ((k : ℕ) × (k < n) × P k) → Decides (not b) (P n) → Decides (not (a && b)) ((k : ℕ) × (k < suc n) × P k)
-    more false b d l = record { holds = λ t. let x = d .holds tt in (x .0, omega (arith, x .1), x .2); fails = λ x. tt }
-    more true b d l = record { holds = λ t. (n, omega arith, l .holds t); fails = λ x. last x (eq-or-lt-of-le (le-of-suc-le-suc (x .1))) }
-      where
-        last : (x : (k : ℕ) × (k < suc n) × P k) → (x .0 ≡ n) ⊎ (x .0 < n) → T (not b)
-        last x (inl e) = l .fails (subst P e (x .2))
-        last x (inr m) = absurd (d .fails (x .0, m, x .2))
-
-decides-nan : (x : Float) → Decides (isNan x) (x ≡ nan)
-unfolding isNan
-decides-nan nan = record { holds = λ t. refl; fails = λ e. tt }
-decides-nan (inf s) = record { holds = absurd; fails = λ e. let z : _≡_ {A = ℕ} 0 1 = cc in omega arith }
-decides-nan (fin s m k) = record { holds = absurd; fails = λ e. let z : _≡_ {A = ℕ} 0 1 = cc in omega arith }
-
-pub decides-nans : (n : ℕ) (s : ℕ → Float) → Decides (anyNan n s) ((j : ℕ) × (j < n) × (s j ≡ nan))
-unfolding anyNan each
-decides-nans zero s = record { holds = absurd; fails = λ x. omega (arith, x .1) }
-decides-nans (suc n) s = more (anyNan n s) (isNan (s n)) (decides-nans n s) (decides-nan (s n))
-  where
-    more : (a b : Bool) → Decides a ((j : ℕ) × (j < n) × (s j ≡ nan)) → Decides b (s n ≡ nan) → Decides (a || b) ((j : ℕ) × (j < suc n) × (s j ≡ nan))
-    more true b d l = record { holds = λ t. let x = d .holds tt in (x .0, omega (arith, x .1), x .2); fails = λ x. tt }
-    more false b d l = record { holds = λ t. (n, omega arith, l .holds t); fails = λ x. last x (eq-or-lt-of-le (le-of-suc-le-suc (x .1))) }
-      where
-        last : (x : (j : ℕ) × (j < suc n) × (s j ≡ nan)) → (x .0 ≡ n) ⊎ (x .0 < n) → T b
-        last x (inl e) = l .fails (ap s (sym e) ∙ x .2)
-        last x (inr m) = absurd (d .fails (x .0, m, x .2))
+pub applied-number : (k : ℕ) → viewApplied (appliedOf k) .number ≡ k
+applied-number zero = refl
+applied-number (suc k) = refl
 
 -- ---- the grounds that a call tests before it runs
 
@@ -151,11 +82,7 @@ decides-finite (fin s m k) = record { holds = λ t. t; fails = λ t. t }
 
 decides-number : (z : Complex) → Decides (not (finiteC z)) (NotFinite (z .re) ⊎ NotFinite (z .im))
 unfolding finiteC
-decides-number z = either (finite (z .re)) (finite (z .im)) (decides-finite (z .re)) (decides-finite (z .im))
-  where
-    either : {P Q : Type 0} (a b : Bool) → Decides (not a) P → Decides (not b) Q → Decides (not (a && b)) (P ⊎ Q)
-    either true b p q = decides-either p q
-    either false b p q = decides-either p q
+decides-number z = rw (not-and (finite (z .re)) (finite (z .im))) (decides-either (decides-finite (z .re)) (decides-finite (z .im)))
 
 pub decides-gate : (gate : List (List Complex)) → Decides (not (allFinite gate)) (NoGate gate)
 unfolding allFinite
@@ -170,6 +97,82 @@ decides-short c store work =
 
 pub decides-unsound : (c : Chain) → Decides (not (sound c)) (Unsound c)
 decides-unsound c = decides-not {b = sound c} (record { holds = sound-facts c; fails = facts-sound c })
+
+pub passes-sound : (c : Chain) → not (sound c) ≡ false → Sound c
+passes-sound c e = sound-facts c (subst T (sym (not-false (sound c) e)) tt)
+
+-- a qubit of the chain
+pub not-outside : (c : Chain) (q : ℕ) → outside c q ≡ false → q < c .«num_qubits»
+not-outside c q e = leb-false (c .«num_qubits») q e
+
+-- two qubits of a chain of n sites
+pub two-qubits : (n q0 q1 : ℕ) → (leb n q0 || leb n q1 || eqb q0 q1) ≡ false → (q0 < n) × (q1 < n) × (q0 ≢ q1)
+two-qubits n q0 q1 e =
+    let x = neither (leb n q0 || leb n q1) (eqb q0 q1) e in
+    let y = neither (leb n q0) (leb n q1) (x .0) in
+    (leb-false n q0 (y .0), leb-false n q1 (y .1), eqb-false q0 q1 (x .1))
+
+-- ---- the tests in the order 3, 2, 4, 5
+
+pub firstOf-least : (b3 b2 b4 b5 : Bool) → firstOf b3 b2 b4 b5 ≤ 5
+firstOf-least true b2 b4 b5 = omega arith
+firstOf-least false true b4 b5 = omega arith
+firstOf-least false false true b5 = omega arith
+firstOf-least false false false true = omega arith
+firstOf-least false false false false = omega arith
+
+-- none of the four tests holds where no ground refuses
+pub record Passes (b3 b2 b4 b5 : Bool) : Type 0 where
+  pub three : b3 ≡ false
+  pub two : b2 ≡ false
+  pub four : b4 ≡ false
+  pub five : b5 ≡ false
+
+pub firstOf-none : (b3 b2 b4 b5 : Bool) → eqb (firstOf b3 b2 b4 b5) 0 ≡ true → Passes b3 b2 b4 b5
+firstOf-none true b2 b4 b5 e = absurd (false≢true e)
+firstOf-none false true b4 b5 e = absurd (false≢true e)
+firstOf-none false false true b5 e = absurd (false≢true e)
+firstOf-none false false false true e = absurd (false≢true e)
+firstOf-none false false false false e = record { three = refl; two = refl; four = refl; five = refl }
+
+-- ---- numbers: refused before anything is written, or else run
+
+pub above-zero : (k : ℕ) → eqb k 0 ≡ false → 1 ≤ k
+above-zero k e = let z = eqb-false k 0 e in omega arith
+
+pub early-late : {k : ℕ} → Early k → Late k → ⊥
+early-late e (inl z) = omega arith
+early-late e (inr z) = omega arith
+
+-- a call answers its refusal k, or else what its run does: a number that is none from 1 to 5 is the run's
+pub run-late : {A : Type 0} (f : A → ℕ) (k : ℕ) (x y : A) → f y ≡ k → k ≤ 5 → Late (f (cond (eqb k 0) x y)) → eqb k 0 ≡ true
+run-late f k x y turned small = by-test (λ (a : _). Late (f a) → eqb k 0 ≡ true) (eqb k 0) x y (λ e l. e)
+    (λ e l. let z = eqb-false k 0 e in absurd (⊎-elim (λ (v : f y ≡ 0). z (sym turned ∙ v)) (λ (v : 6 ≤ f y). omega arith) l))
+
+-- ---- what a projection, a measurement or a reset that is not refused has: a sound record, long slices and a qubit of the chain
+
+pub record AcceptedReading (s : State) (work : List Float) (q : ℕ) : Type 0 where
+  pub sound : Sound (s .chain)
+  pub long : short (s .chain) (s .store) work ≡ false
+  pub below : q < s .chain .«num_qubits»
+  pub site-below : siteOf (s .chain) q < s .chain .«num_qubits»
+
+module _ (s : State) (work : List Float) (q : ℕ) where
+  reading-accepted : {four five : Bool} → (four ≡ false → outside (s .chain) q ≡ false) → Passes (not (sound (s .chain))) (short (s .chain) (s .store) work) four five → AcceptedReading s work q
+  reading-accepted inside p =
+      let h = passes-sound (s .chain) (p .three) in
+      let l = not-outside (s .chain) q (inside (p .four)) in
+      record { sound = h; long = p .two; below = l; site-below = h .sites .below q l }
+
+  pub project-passes : eqb (projectRefusal s work q) 0 ≡ true → AcceptedReading s work q
+  project-passes e = reading-accepted (λ z. z) (firstOf-none (not (sound (s .chain))) (short (s .chain) (s .store) work) (outside (s .chain) q) false e)
+
+  pub measure-passes : (flag : ℕ) (draw : Float) → eqb (measureRefusal s work q flag draw) 0 ≡ true → AcceptedReading s work q
+  measure-passes flag draw e =
+      reading-accepted (λ z. neither (outside (s .chain) q) (leb 64 flag) z .0) (firstOf-none (not (sound (s .chain))) (short (s .chain) (s .store) work) (outside (s .chain) q || leb 64 flag) (not (share01 draw)) e)
+
+  pub reset-passes : (draw : Float) → eqb (resetRefusal s work q draw) 0 ≡ true → AcceptedReading s work q
+  reset-passes draw e = reading-accepted (λ z. z) (firstOf-none (not (sound (s .chain))) (short (s .chain) (s .store) work) (outside (s .chain) q) (not (share01 draw)) e)
 
 -- ---- start, and the calls without a cut
 

@@ -20,17 +20,18 @@ use Rattle.model.specs.declared.WeightSide.the-variants.{Left, Right}
 use Rattle.model.specs.Slots.{State, held, lefts, rights, slotRoom, storeRoom, withSite}
 use Rattle.model.specs.Svd.{Svd, values}
 use Rattle.model.specs.Pair.{isometrySite, scaledSite, vtSite, scaledVtSite, leftSite, rightSite}
-use Rattle.model.specs.Moves.{moved, established, centeredOn, Prepared, prepared, preparedOn}
+use Rattle.model.specs.Moves.{moved, established, Prepared, preparedOn}
 use Rattle.model.specs.Cut.{cutStored, Ran, ran, adjacent, weightSite}
 use Rattle.model.specs.Born.{weightAt, projectedSite, resetSite, projectedAt, resetAt, readied}
-use Rattle.model.specs.Laws.SoundFacts.{Sound}
-use Rattle.model.specs.Laws.QrRank.{cut-rank-most}
-use Rattle.model.specs.Laws.MoveLaws.{Apart, apart-none, apart-then, site-apart, pair-apart, rows-fit, wide-rows-fit, moved-narrowed, moved-apart, moved-centre, established-narrowed, established-apart, established-centre}
-use Rattle.model.specs.Laws.SoundKept.{Keeps, keeps-none, keeps-then, narrowed-keeps}
-use Rattle.model.specs.Laws.SoundKept.{adjacent-keeps, stepped-keeps, Inside}
-use Rattle.model.specs.Statements.Table.{keepsCentre, preparedFor, pairOf}
-use Rattle.model.specs.Laws.CutGrounds.{either-way, unprepared, rankOf, cutAt, MadeIn, CutMade, above, first-nan, second-nan, stored, no-centre, adjacent-made, established-narrow, relabelledBy}
 use Rattle.model.specs.Routing.{Step, downTo, routeOf, swapStep, stepsOf, stepped, runSteps}
+use Rattle.model.specs.Statements.Table.{keepsCentre, preparedFor, pairOf, rankOf}
+use Rattle.model.specs.Statements.Demand1Cuts.{madeIn}
+use Rattle.model.specs.Laws.SoundFacts.{Sound, left-most, right-most}
+use Rattle.model.specs.Laws.SoundChanges.{cut-rank-most}
+use Rattle.model.specs.Laws.MoveLaws.{readied-by, prepared-by, apart-at, Apart, apart-none, apart-then, site-apart, pair-apart, rows-fit, wide-rows-fit, moved-narrowed, moved-apart, moved-centre, established-narrowed, established-apart, established-centre}
+use Rattle.model.specs.Laws.SoundKept.{Keeps, keeps-none, keeps-then, narrowed-keeps, relabelledBy, adjacent-keeps, stepped-keeps, Inside}
+use Rattle.model.specs.Laws.CutEnds.{unprepared, cutAt, Begun, CutEnds, above, first-nan, second-nan, stored, no-centre, adjacent-ends}
+use Rattle.model.specs.Laws.Tests.{by-test, either-way}
 
 -- ---- a state that rewrites the sites from lo to hi alone
 
@@ -48,10 +49,6 @@ pub record Within (lo hi : ℕ) (s t : State) : Type 0 where
   pub apart : Apart (s .chain .«num_qubits») (s .chain .«max_bond_dim») lo hi (s .store) (t .store)
   pub reach : Reach (s .chain .«num_qubits») lo hi (t .chain .center)
 
--- the same stores, the chain's size and cap being written otherwise
-pub apart-as : {n d n′ d′ lo hi : ℕ} {x y : List Float} → n ≡ n′ → d ≡ d′ → Apart n d lo hi x y → Apart n′ d′ lo hi x y
-apart-as en ed a = rw (en, ed) at a
-
 module _ {lo hi : ℕ} {s t : State} (x : Within lo hi s t) where
   pub within-room : Room s → Room t
   within-room room = rw (x .keeps .qubits, x .keeps .cap, x .apart .long) room
@@ -62,7 +59,7 @@ module _ {lo hi : ℕ} {s t : State} (x : Within lo hi s t) where
   pub within-then : {u : State} → Within lo hi t u → Within lo hi s u
   within-then y = record {
     keeps = keeps-then (x .keeps) (y .keeps);
-    apart = apart-then lo hi (omega arith) (omega arith) (omega arith) (omega arith) (x .apart) (apart-as (x .keeps .qubits) (x .keeps .cap) (y .apart));
+    apart = apart-then lo hi (omega arith) (omega arith) (omega arith) (omega arith) (x .apart) (apart-at (x .keeps .qubits) (x .keeps .cap) (y .apart));
     reach = rw (x .keeps .qubits) at (y .reach);
   }
 
@@ -90,26 +87,22 @@ module _ (s : State) (h : Sound (s .chain)) (room : Room s) where
     reach = rw (established-centre to s) (omega arith, omega arith);
   }
 
-  module _ (lo hi : ℕ) where
-    centeredOn-within : (k : ℕ) → k < s .chain .«num_qubits» → lo ≤ k → k ≤ hi → (at : Center) → ((j : ℕ) → at ≡ At j → j < s .chain .«num_qubits») → Reach (s .chain .«num_qubits») lo hi at
-        → Within lo hi s (centeredOn k at s)
-    centeredOn-within k inside a b Unknown below r = established-within lo hi k inside (r .0) (r .1)
-    centeredOn-within k inside a b (At from) below r = moved-within lo hi from k (below from refl) inside (r .0) (r .1) a b
+  module _ (lo hi k : ℕ) (a : lo ≤ k) (r : Reach (s .chain .«num_qubits») lo hi (s .chain .center)) where
+    -- where no centre is recorded the range is the whole chain, and a recorded one lies in the range
+    whole : s .chain .center ≡ Unknown → (lo ≡ 0) × (s .chain .«num_qubits» ≤ hi + 1)
+    whole e = rw e at r
 
-    pub readied-within : (k : ℕ) → k < s .chain .«num_qubits» → lo ≤ k → k ≤ hi → Reach (s .chain .«num_qubits») lo hi (s .chain .center) → Within lo hi s (readied k s)
-    readied-within k inside a b r = centeredOn-within k inside a b (s .chain .center) (h .centre) r
+    reached : (from : ℕ) → s .chain .center ≡ At from → (lo ≤ from) × (from ≤ hi)
+    reached from e = rw e at r
 
-    module _ (k : ℕ) (inside : k + 1 < s .chain .«num_qubits») (a : lo ≤ k) (b : k + 1 ≤ hi) where
-      on-within : (at : Center) → ((j : ℕ) → at ≡ At j → j < s .chain .«num_qubits») → Reach (s .chain .«num_qubits») lo hi at → Within lo hi s (preparedOn k at s .state)
-      on-within Unknown below r = established-within lo hi k (omega arith) (r .0) (r .1)
-      on-within (At from) below r = pick (leb from k)
-        where
-          pick : (b : Bool) → Within lo hi s (cond b (prepared Right (moved from k s)) (prepared Left (moved from (k + 1) s)) .state)
-          pick true = moved-within lo hi from k (below from refl) (omega arith) (r .0) (r .1) a (omega arith)
-          pick false = moved-within lo hi from (k + 1) (below from refl) inside (r .0) (r .1) (omega arith) b
+    pub readied-within : k < s .chain .«num_qubits» → k ≤ hi → Within lo hi s (readied k s)
+    readied-within inside b =
+        readied-by (Within lo hi s) k s (λ e. established-within lo hi k inside (whole e .0) (whole e .1)) (λ from e. moved-within lo hi from k (h .centre from e) inside (reached from e .0) (reached from e .1) a b)
 
-      pub preparedOn-within : Reach (s .chain .«num_qubits») lo hi (s .chain .center) → Within lo hi s (preparedOn k (s .chain .center) s .state)
-      preparedOn-within r = on-within (s .chain .center) (h .centre) r
+    pub prepared-within : k + 1 < s .chain .«num_qubits» → k + 1 ≤ hi → Within lo hi s (preparedFor k s .state)
+    prepared-within inside b =
+        prepared-by (Within lo hi s) k s (within-none lo hi s h r) (λ e. established-within lo hi k (omega arith) (whole e .0) (whole e .1))
+        (λ from to e l m. moved-within lo hi from to (h .centre from e) (omega arith) (reached from e .0) (reached from e .1) (omega arith) (omega arith))
 
 -- ---- a cut
 
@@ -129,8 +122,8 @@ module _ (s : State) (h : Sound (s .chain)) (room : Room s) (k : ℕ) (inside : 
       → Apart (s .chain .«num_qubits») (s .chain .«max_bond_dim») k (k + 1) (s .store) (cutStored k maintained side s d chi .store)
   cutStored-apart chi most =
       pair-apart (s .chain .«num_qubits») (s .chain .«max_bond_dim») k _ _ (s .store) inside room
-      (leftSite-fits side _ _ chi d (omega (arith, h .bonds .left-range k (omega arith) .1, h .high-water .1)) most)
-      (rightSite-fits side _ chi _ d most (omega (arith, h .bonds .right-range (k + 1) inside .1, h .high-water .1)))
+      (leftSite-fits side _ _ chi d (left-most (s .chain) h k (omega arith)) most)
+      (rightSite-fits side _ chi _ d most (right-most (s .chain) h (k + 1) inside))
 
   pub cutStored-reach : (chi lo hi : ℕ) → lo ≤ k → k + 1 ≤ hi → Reach (s .chain .«num_qubits») lo hi (s .chain .center)
       → Reach (s .chain .«num_qubits») lo hi (cutStored k maintained side s d chi .chain .center)
@@ -142,41 +135,38 @@ module _ (s : State) (h : Sound (s .chain)) (room : Room s) (k : ℕ) (inside : 
       pick false w = r
 
 module _ (lo hi k : ℕ) (a : lo ≤ k) (b : k + 1 ≤ hi) where
-  -- with the centre on the pair, if it is kept
-  preparedFor-within : (s : State) → Sound (s .chain) → Room s → k + 1 < s .chain .«num_qubits» → Reach (s .chain .«num_qubits») lo hi (s .chain .center) → Within lo hi s (preparedFor k s .state)
-  preparedFor-within s h room inside r =
-      either-way (λ (p : Prepared). Within lo hi s (p .state)) (keepsCentre k s) _ _ (preparedOn-within s h room lo hi k inside a b r) (within-none lo hi s h r)
-
   module _ (gate : List (List Complex)) (s : State) (h : Sound (s .chain)) (room : Room s) (inside : k + 1 < s .chain .«num_qubits») (r : Reach (s .chain .«num_qubits») lo hi (s .chain .center)) where
-    madeIn-within : (u : State) → MadeIn k s u → Within lo hi s u
-    madeIn-within u (inl e) = rw e (within-none lo hi s h r)
-    madeIn-within u (inr e) =
+    begun-within : (u : State) → Begun k s u → Within lo hi s u
+    begun-within u (inl e) = rw e (within-none lo hi s h r)
+    begun-within u (inr e) =
         let z : Reach (s .chain .«num_qubits») lo hi Unknown = rw (e .0) at r in
         rw (e .1) (established-within s h room lo hi k (omega arith) (z .0) (z .1))
 
-    ready-within : (u : State) → MadeIn k s u → Within lo hi s (preparedFor k u .state)
+    ready-within : (u : State) → Begun k s u → Within lo hi s (preparedFor k u .state)
     ready-within u m =
-        let x = madeIn-within u m in
-        within-then x (preparedFor-within u (x .keeps .sound) (within-room x room) (rw (x .keeps .qubits) inside) (within-reach x))
+        let x = begun-within u m in
+        within-then x (prepared-within u (x .keeps .sound) (within-room x room) lo hi k a (within-reach x) (rw (x .keeps .qubits) inside) b)
+
+    stored-within : (u : State) → Begun k s u → adjacent gate k s .state ≡ cutAt gate k u → Within lo hi s (adjacent gate k s .state)
+    stored-within u m e =
+        let y = ready-within u m in
+        let t = preparedFor k u .state in
+        let inside′ : k + 1 < t .chain .«num_qubits» = rw (y .keeps .qubits) inside in
+        record {
+          keeps = adjacent-keeps gate k s h inside;
+          apart = rw e (apart-then lo hi (omega arith) (omega arith) (omega arith) (omega arith) (y .apart)
+              (apart-at (y .keeps .qubits) (y .keeps .cap) (widened a b (cutStored-apart t (y .keeps .sound) (within-room y room) k inside′ (keepsCentre k u) (preparedFor k u .side) (pairOf gate k t) (rankOf t (pairOf gate k t)) (cut-rank-most (t .chain .«svd_epsilon») (t .chain .«max_bond_dim») (values (pairOf gate k t)))))));
+          reach = rw (e, ← y .keeps .qubits) (cutStored-reach t (y .keeps .sound) (within-room y room) k inside′ (keepsCentre k u) (preparedFor k u .side) (pairOf gate k t) (rankOf t (pairOf gate k t)) lo hi a b (within-reach y));
+        }
 
     pub adjacent-within : Within lo hi s (adjacent gate k s .state)
-    adjacent-within = cases (adjacent-made gate k s (established-narrow k s h inside))
+    adjacent-within = cases (adjacent-ends gate k s h inside)
       where
-        cases : CutMade gate k s (adjacent gate k s) → Within lo hi s (adjacent gate k s .state)
+        cases : CutEnds gate k s (adjacent gate k s) → Within lo hi s (adjacent gate k s .state)
         cases (above x e) = rw e (within-none lo hi s h r)
         cases (first-nan x n e) = rw e (ready-within s (inl refl))
         cases (second-nan x n e) = rw e (ready-within (established k s) (inr (no-centre k s (n .0 .0), refl)))
-        cases (stored x n n′ u m e) =
-            let y = ready-within u m in
-            let t = preparedFor k u .state in
-            let e′ : adjacent gate k s .state ≡ cutAt gate k u = ap (λ (r : Ran). r .state) e in
-            let inside′ : k + 1 < t .chain .«num_qubits» = rw (y .keeps .qubits) inside in
-            record {
-              keeps = adjacent-keeps gate k s h inside;
-              apart = rw e′ (apart-then lo hi (omega arith) (omega arith) (omega arith) (omega arith) (y .apart)
-                  (apart-as (y .keeps .qubits) (y .keeps .cap) (widened a b (cutStored-apart t (y .keeps .sound) (within-room y room) k inside′ (keepsCentre k u) (preparedFor k u .side) (pairOf gate k t) (rankOf gate k t) (cut-rank-most (t .chain .«svd_epsilon») (t .chain .«max_bond_dim») (values (pairOf gate k t)))))));
-              reach = rw (e′, ← y .keeps .qubits) (cutStored-reach t (y .keeps .sound) (within-room y room) k inside′ (keepsCentre k u) (preparedFor k u .side) (pairOf gate k t) (rankOf gate k t) lo hi a b (within-reach y));
-            }
+        cases (stored x n n′ m e) = stored-within (madeIn gate k s) m (ap (λ (r : Ran). r .state) e)
 
 -- ---- a route
 
@@ -227,8 +217,8 @@ module _ (s : State) (h : Sound (s .chain)) (room : Room s) (k : ℕ) (inside : 
   -- rows of the left index, then of the bit
   bits-fit : (f : ℕ → ℕ → ℕ → Complex) → length (rows (lefts s k) (λ a. rows 2 (λ i. numbers (rights s k) (f a i)))) ≤ slotRoom (s .chain .«max_bond_dim»)
   bits-fit f =
-      let bl : lefts s k ≤ s .chain .«max_bond_dim» = omega (arith, h .bonds .left-range k inside .1, h .high-water .1) in
-      let br : rights s k ≤ s .chain .«max_bond_dim» = omega (arith, h .bonds .right-range k inside .1, h .high-water .1) in
+      let bl : lefts s k ≤ s .chain .«max_bond_dim» = left-most (s .chain) h k inside in
+      let br : rights s k ≤ s .chain .«max_bond_dim» = right-most (s .chain) h k inside in
       rw (length-rows (2 * rights s k) _ (λ a. length-rows (rights s k) _ (λ i. length-numbers (rights s k) (f a i)) 2) (lefts s k)) (omega (arith, mul-le-mul bl br))
 
   rewritten : (site : List Float) → length site ≤ slotRoom (s .chain .«max_bond_dim») → (b : Bool)
@@ -250,20 +240,14 @@ no-At : {at : Center} {k : ℕ} → at ≡ At k → at ≡ Unknown → ⊥
 no-At p q = let z : _≡_ {A = ℕ} 0 1 = cc in omega arith
 
 prepared-centre : (k : ℕ) (at : Center) (s : State) → preparedOn k at s .state .chain .center ≡ Unknown → ⊥
-prepared-centre k Unknown s e = no-At (established-centre k s) e
-prepared-centre k (At from) s e = pick (leb from k) e
-  where
-    pick : (b : Bool) → cond b (prepared Right (moved from k s)) (prepared Left (moved from (k + 1) s)) .state .chain .center ≡ Unknown → ⊥
-    pick true e = no-At (moved-centre from k s) e
-    pick false e = no-At (moved-centre from (k + 1) s) e
+prepared-centre k Unknown s = λ e. no-At (established-centre k s) e
+prepared-centre k (At from) s =
+    either-way (λ (p : Prepared). p .state .chain .center ≡ Unknown → ⊥) (leb from k) _ _ (λ e. no-At (moved-centre from k s) e) (λ e. no-At (moved-centre from (k + 1) s) e)
 
 -- with no centre after it, a pair was taken as it stood
 unmoved-pair : (k : ℕ) (s : State) → preparedFor k s .state .chain .center ≡ Unknown → keepsCentre k s ≡ false
-unmoved-pair k s = pick (keepsCentre k s)
-  where
-    pick : (b : Bool) → cond b (preparedOn k (s .chain .center) s) (prepared Right s) .state .chain .center ≡ Unknown → b ≡ false
-    pick true e = absurd (prepared-centre k (s .chain .center) s e)
-    pick false e = refl
+unmoved-pair k s =
+    by-test (λ (p : Prepared). p .state .chain .center ≡ Unknown → keepsCentre k s ≡ false) (keepsCentre k s) _ _ (λ b e. absurd (prepared-centre k (s .chain .center) s e)) (λ b e. b)
 
 -- no centre after means none before, and then only the sites from lo to hi are rewritten
 pub record Unmoved (lo hi : ℕ) (s t : State) : Type 0 where
@@ -276,21 +260,21 @@ unmoved-none lo hi s = record { before = λ e. e; apart = λ e. apart-none _ _ l
 unmoved-then : {lo hi : ℕ} {s t u : State} → Keeps (s .chain) (t .chain) → Unmoved lo hi s t → Unmoved lo hi t u → Unmoved lo hi s u
 unmoved-then {lo = lo} {hi = hi} k x y = record {
   before = λ e. x .before (y .before e);
-  apart = λ e. apart-then lo hi (omega arith) (omega arith) (omega arith) (omega arith) (x .apart (y .before e)) (apart-as (k .qubits) (k .cap) (y .apart e));
+  apart = λ e. apart-then lo hi (omega arith) (omega arith) (omega arith) (omega arith) (x .apart (y .before e)) (apart-at (k .qubits) (k .cap) (y .apart e));
 }
 
 module _ (lo hi k : ℕ) (a : lo ≤ k) (b : k + 1 ≤ hi) (gate : List (List Complex)) (s : State) (h : Sound (s .chain)) (room : Room s) (inside : k + 1 < s .chain .«num_qubits») where
   -- the state in which the cut was made is the one that it found
-  found : (u : State) → MadeIn k s u → u .chain .center ≡ Unknown → u ≡ s
+  found : (u : State) → Begun k s u → u .chain .center ≡ Unknown → u ≡ s
   found u (inl e) c = e
   found u (inr e) c = absurd (no-At (ap (λ (t : State). t .chain .center) (e .1) ∙ established-centre k s) c)
 
-  taken : (u : State) → MadeIn k s u → preparedFor k u .state .chain .center ≡ Unknown → preparedFor k u .state ≡ s
+  taken : (u : State) → Begun k s u → preparedFor k u .state .chain .center ≡ Unknown → preparedFor k u .state ≡ s
   taken u m c =
       let e : preparedFor k u .state ≡ u = ap (λ (p : Prepared). p .state) (unprepared k u (unmoved-pair k u c)) in
       e ∙ found u m (ap (λ (t : State). t .chain .center) (sym e) ∙ c)
 
-  pair-unmoved : (u : State) → MadeIn k s u → Unmoved lo hi s (preparedFor k u .state)
+  pair-unmoved : (u : State) → Begun k s u → Unmoved lo hi s (preparedFor k u .state)
   pair-unmoved u m = record {
     before = λ c. ap (λ (t : State). t .chain .center) (sym (taken u m c)) ∙ c;
     apart = λ c. subst (λ (t : State). Apart (s .chain .«num_qubits») (s .chain .«max_bond_dim») lo hi (s .store) (t .store)) (sym (taken u m c)) (apart-none _ _ lo hi (s .store));
@@ -307,16 +291,17 @@ module _ (lo hi k : ℕ) (a : lo ≤ k) (b : k + 1 ≤ hi) (gate : List (List Co
   }
 
   pub adjacent-unmoved : Unmoved lo hi s (adjacent gate k s .state)
-  adjacent-unmoved = cases (adjacent-made gate k s (established-narrow k s h inside))
+  adjacent-unmoved = cases (adjacent-ends gate k s h inside)
     where
-      cases : CutMade gate k s (adjacent gate k s) → Unmoved lo hi s (adjacent gate k s .state)
+      cases : CutEnds gate k s (adjacent gate k s) → Unmoved lo hi s (adjacent gate k s .state)
       cases (above x e) = rw e (unmoved-none lo hi s)
       cases (first-nan x n e) = subst (Unmoved lo hi s) (sym (ap (λ (r : Ran). r .state) e)) (pair-unmoved s (inl refl))
       cases (second-nan x n e) = subst (Unmoved lo hi s) (sym (ap (λ (r : Ran). r .state) e)) (pair-unmoved (established k s) (inr (no-centre k s (n .0 .0), refl)))
-      cases (stored x n n′ u m e) =
+      cases (stored x n n′ m e) =
+          let u = madeIn gate k s in
           let t = preparedFor k u .state in
           subst (Unmoved lo hi s) (sym (ap (λ (r : Ran). r .state) e))
-          (cut-unmoved t (preparedFor k u .side) (keepsCentre k u) (pairOf gate k t) (rankOf gate k t) (cut-rank-most (t .chain .«svd_epsilon») (t .chain .«max_bond_dim») (values (pairOf gate k t))) (taken u m))
+          (cut-unmoved t (preparedFor k u .side) (keepsCentre k u) (pairOf gate k t) (rankOf t (pairOf gate k t)) (cut-rank-most (t .chain .«svd_epsilon») (t .chain .«max_bond_dim») (values (pairOf gate k t))) (taken u m))
 
 module _ (lo hi : ℕ) where
   stepped-unmoved : (x : Step) (s : State) → Sound (s .chain) → Room s → x .site + 1 < s .chain .«num_qubits» → lo ≤ x .site → x .site + 1 ≤ hi → Unmoved lo hi s (stepped x s .state)

@@ -1,22 +1,31 @@
--- Changes of one group of a record's fields that keep it sound.
-use Prim.Native.Nat.{ℕ, _+_, _-_, _≤_, _<_}
-use mathlib.Core.Path.{_≡_, refl, sym, ap, _∙_}
+-- Changes of one group of a record's fields that keep it sound; and ranks, which become bonds: they are from 1 to their caps, whatever numbers are factored.
+use Prim.Native.Nat.{ℕ, _+_, _-_, _≤_, _<_, min}
+use mathlib.Core.Path.{_≡_, refl, sym, ap, _∙_, subst}
 use mathlib.Core.Logic.{_≢_}
-use mathlib.Core.Bool.{Bool}
+use mathlib.Core.Bool.{Bool, _&&_}
 use mathlib.Core.List.{List}
 use native.Mathlib.Decide.{ℕ-discrete}
 use native.Mathlib.Omega.{arith}
 use lib.ListN.{length, getD, set, length-set}
 use lib.Seq.{getD-set-same, getD-set-other}
-use lib.Ieee.{Float}
+use lib.Ieee.{Float, lt, mul, binary64}
+use lib.Dec.{ltb, eqb, T, ltb→lt}
+use borrow.Author.Tests.{eqb-false}
+use lib.Ieee.Fits.{and-l}
+use Rattle.complex.specs.Loops.{each-keeps}
 use Rattle.model.specs.declared.Center.{Center}
 use Rattle.model.specs.declared.Center.the-variants.{At}
 use Rattle.model.specs.declared.Chain.{Chain}
 use Rattle.model.specs.Chain.{withCenter, withBond, withBits, withTruncation}
 use Rattle.model.specs.Routing.{relabelled}
-use Rattle.model.specs.Laws.SoundFacts.{Bonds, Undone, Sound}
+use Rattle.model.specs.Qr.{Passed, Kept, keptOf, columnOf, raised, qr, rankTolerance}
+use Rattle.model.specs.Truncation.{rank}
+use Rattle.model.specs.Statements.Demand1Cuts.{labelsOf}
+use Rattle.model.specs.Laws.SoundFacts.{Bonds, Sound}
+use Rattle.model.specs.Laws.Labels.{sound-maps, exchanged-maps}
+use Rattle.model.specs.Laws.Tests.{either-way, by-test}
 
--- ---- what a list holds after a store, and after two
+-- ---- what a list holds after a store
 
 pub after-set : (P : ℕ → Type 0) (l : List ℕ) (i j b : ℕ) → i < length l → (j ≡ i → P b) → (j ≢ i → P (getD l j 0)) → P (getD (set l i b) j 0)
 after-set P l i j b h here there = choose (ℕ-discrete j i)
@@ -24,10 +33,6 @@ after-set P l i j b h here there = choose (ℕ-discrete j i)
     choose : Dec (j ≡ i) → P (getD (set l i b) j 0)
     choose (yes e) = let v : getD (set l i b) j 0 ≡ b = ap (λ (m : ℕ). getD (set l i b) m 0) e ∙ getD-set-same l i b 0 h in rw v (here e)
     choose (no e) = rw (getD-set-other l i j b 0 e) (there e)
-
-pub after-sets : (P : ℕ → Type 0) (l : List ℕ) (i j x y k : ℕ) → i < length l → j < length l → (k ≡ j → P y) → (k ≡ i → P x) → (k ≢ i → k ≢ j → P (getD l k 0)) → P (getD (set (set l i x) j y) k 0)
-after-sets P l i j x y k hi hj second first other =
-    after-set P (set l i x) j k y (rw length-set hj) second (λ ej. after-set P l i k x hi first (λ ei. other ei ej))
 
 -- ---- the centre, the flags, and the high water raised
 
@@ -105,85 +110,15 @@ bond-sound c h k bond inside low high = record {
 
 -- ---- the labels of two neighbours exchanged
 
-module _ (n : ℕ) (there back : List ℕ) (go : Undone n there back) (come : Undone n back there) (lt : n ≤ length there) (lb : n ≤ length back) (k : ℕ) (inside : k + 1 < n) where
-  abbrev a : ℕ
-  a = getD back k 0
-
-  abbrev b : ℕ
-  b = getD back (k + 1) 0
-
-  abbrev there′ : List ℕ
-  there′ = set (set there a (k + 1)) b k
-
-  abbrev back′ : List ℕ
-  back′ = set (set back k b) (k + 1) a
-
-  a-below : a < n
-  a-below = come .below k (omega arith)
-
-  b-below : b < n
-  b-below = come .below (k + 1) inside
-
-  a-site : getD there a 0 ≡ k
-  a-site = come .undone k (omega arith)
-
-  b-site : getD there b 0 ≡ k + 1
-  b-site = come .undone (k + 1) inside
-
-  a-not-b : a ≢ b
-  a-not-b e = let z : k ≡ k + 1 = sym a-site ∙ ap (λ (q : ℕ). getD there q 0) e ∙ b-site in omega arith
-
-  there-a : getD there′ a 0 ≡ k + 1
-  there-a = getD-set-other (set there a (k + 1)) b a k 0 a-not-b ∙ getD-set-same there a (k + 1) 0 (omega (arith, a-below))
-
-  there-b : getD there′ b 0 ≡ k
-  there-b = getD-set-same (set there a (k + 1)) b k 0 (rw length-set (omega (arith, b-below)))
-
-  there-other : (q : ℕ) → q ≢ a → q ≢ b → getD there′ q 0 ≡ getD there q 0
-  there-other q ea eb = getD-set-other (set there a (k + 1)) b q k 0 eb ∙ getD-set-other there a q (k + 1) 0 ea
-
-  back-k : getD back′ k 0 ≡ b
-  back-k = getD-set-other (set back k b) (k + 1) k a 0 (omega arith) ∙ getD-set-same back k b 0 (omega arith)
-
-  back-next : getD back′ (k + 1) 0 ≡ a
-  back-next = getD-set-same (set back k b) (k + 1) a 0 (rw length-set (omega arith))
-
-  back-other : (x : ℕ) → x ≢ k → x ≢ k + 1 → getD back′ x 0 ≡ getD back x 0
-  back-other x ek en = getD-set-other (set back k b) (k + 1) x a 0 en ∙ getD-set-other back k x b 0 ek
-
-  exchanged-go : Undone n there′ back′
-  exchanged-go = record {
-    below = λ q l. after-sets (λ (x : ℕ). x < n) there a b (k + 1) k q (omega (arith, a-below)) (omega (arith, b-below)) (λ e. omega arith) (λ e. inside) (λ ea eb. go .below q l);
-    undone = λ q l. after-sets (λ (x : ℕ). getD back′ x 0 ≡ q) there a b (k + 1) k q (omega (arith, a-below)) (omega (arith, b-below))
-        (λ e. back-k ∙ sym e) (λ e. back-next ∙ sym e)
-        (λ ea eb. back-other (getD there q 0)
-        (λ z. ea (sym (go .undone q l) ∙ ap (λ (x : ℕ). getD back x 0) z))
-        (λ z. eb (sym (go .undone q l) ∙ ap (λ (x : ℕ). getD back x 0) z)) ∙ go .undone q l);
-    past = λ q l. there-other q (λ e. let z = a-below in omega arith) (λ e. let z = b-below in omega arith) ∙ go .past q l;
-  }
-
-  exchanged-come : Undone n back′ there′
-  exchanged-come = record {
-    below = λ x l. after-sets (λ (q : ℕ). q < n) back k (k + 1) b a x (omega arith) (omega arith) (λ e. a-below) (λ e. b-below) (λ ek en. come .below x l);
-    undone = λ x l. after-sets (λ (q : ℕ). getD there′ q 0 ≡ x) back k (k + 1) b a x (omega arith) (omega arith)
-        (λ e. there-a ∙ sym e) (λ e. there-b ∙ sym e)
-        (λ ek en. there-other (getD back x 0)
-        (λ z. ek (sym (come .undone x l) ∙ ap (λ (q : ℕ). getD there q 0) z ∙ a-site))
-        (λ z. en (sym (come .undone x l) ∙ ap (λ (q : ℕ). getD there q 0) z ∙ b-site)) ∙ come .undone x l);
-    past = λ x l. back-other x (omega arith) (omega arith) ∙ come .past x l;
-  }
-
 pub relabelled-sound : (c : Chain) → Sound c → (k : ℕ) → k + 1 < c .«num_qubits» → Sound (relabelled k c)
 relabelled-sound c h k inside =
-    let n = c .«num_qubits» in
-    let lt : n ≤ length (c .«logical_to_site») = omega arith in
-    let lb : n ≤ length (c .«site_to_logical») = omega arith in
+    let x = exchanged-maps (c .«num_qubits») (labelsOf c) (sound-maps c h) k inside in
     record {
       settings = h .settings;
       high-water = h .high-water;
       bonds = h .bonds;
-      sites = exchanged-go n (c .«logical_to_site») (c .«site_to_logical») (h .sites) (h .qubits) lt lb k inside;
-      qubits = exchanged-come n (c .«logical_to_site») (c .«site_to_logical») (h .sites) (h .qubits) lt lb k inside;
+      sites = x .sites;
+      qubits = x .qubits;
       centre = h .centre;
       sizes = record {
         lefts = h .sizes .lefts;
@@ -193,3 +128,44 @@ relabelled-sound c h k inside =
         bits = h .sizes .bits;
       };
     }
+
+-- ---- the QR factoring
+
+-- a column is kept only where there is room for it
+keptOf-rank : (high wide cap j : ℕ) (norm : Float) (r : ℕ) (x : Passed) → r ≤ cap → keptOf high wide cap j norm r x .rank ≤ cap
+unfolding keptOf
+keptOf-rank high wide cap j norm r x h =
+    by-test (λ (k : Kept). k .rank ≤ cap) (ltb r cap && lt (mul binary64 rankTolerance norm) (x .residual)) _ _
+    (λ e. let l = ltb→lt r cap (and-l (ltb r cap) _ (subst T (sym e) tt)) in omega arith) (λ e. h)
+
+module _ (high : ℕ) (k : Kept) where
+  raised-least : 1 ≤ raised high k .rank
+  unfolding raised
+  raised-least = by-test (λ (x : Kept). 1 ≤ x .rank) (eqb (k .rank) 0) _ _ (λ e. omega arith) (λ e. let some = eqb-false (k .rank) 0 e in omega arith)
+
+  raised-most : (room : ℕ) → 1 ≤ room → k .rank ≤ room → raised high k .rank ≤ room
+  unfolding raised
+  raised-most room some h = either-way (λ (x : Kept). x .rank ≤ room) (eqb (k .rank) 0) _ _ some h
+
+module _ (high wide : ℕ) (a : List Float) where
+  pub qr-rank-least : 1 ≤ qr high wide a .rank
+  unfolding qr
+  qr-rank-least = raised-least high _
+
+  pub qr-rank-most : 1 ≤ high → 1 ≤ wide → qr high wide a .rank ≤ min high wide
+  unfolding qr columnOf
+  qr-rank-most tall broad =
+      raised-most high _ (min high wide) (omega arith)
+      (each-keeps (λ (k : Kept). k .rank ≤ min high wide) wide (columnOf high wide (min high wide))
+      (λ j k l h. keptOf-rank high wide (min high wide) j _ (k .rank) _ h) _ (omega arith))
+
+-- ---- a cut
+
+module _ (epsilon : Float) (cap : ℕ) (s : List Float) where
+  pub cut-rank-least : 1 ≤ cap → 1 ≤ rank epsilon cap s
+  unfolding rank
+  cut-rank-least h = omega arith
+
+  pub cut-rank-most : rank epsilon cap s ≤ cap
+  unfolding rank
+  cut-rank-most = omega arith

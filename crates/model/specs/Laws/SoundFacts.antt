@@ -1,10 +1,9 @@
 -- What a sound chain record is, in propositions: the test `sound` and these are equivalent.
 use Prim.Native.Nat.{ℕ, _+_, _-_, _≤_, _<_}
 use mathlib.Core.Path.{_≡_, refl}
-use mathlib.Core.Bool.{Bool, true, false, _&&_, _||_}
-use mathlib.Core.Logic.{⊎-elim, _⊎_, inl, inr}
+use mathlib.Core.Bool.{Bool, _&&_, _||_}
+use mathlib.Core.Logic.{⊎-elim}
 use mathlib.Core.List.{List}
-use native.Mathlib.Decide.{decLt}
 use native.Mathlib.Omega.{arith}
 use lib.Dec.{T, leb, ltb, eqb, leb→le, le→leb, ltb→lt, lt→ltb, eqb→eq}
 use lib.ListN.{length, getD, List·getD-eq-default}
@@ -17,6 +16,7 @@ use Rattle.model.specs.declared.Center.the-variants.{Unknown, At}
 use Rattle.model.specs.declared.Chain.{Chain}
 use Rattle.model.specs.Chain.{bondLeft, bondRight}
 use Rattle.model.specs.Sound.{within, share01, settingsFit, entryFits, bondsFit, undoes, centerFits, sized, sound}
+use Rattle.model.specs.Laws.Tests.{below-or-past, or-first, or-second, or-test}
 
 -- ---- the propositions
 
@@ -62,26 +62,6 @@ pub record Sound (c : Chain) : Type 0 where
   pub sizes : Sized c
 
 -- ---- tests and facts
-
--- an index lies below n or not
-pub below-or-past : (i n : ℕ) → (i < n) ⊎ (n ≤ i)
-below-or-past i n = choose (decLt i n)
-  where
-    choose : Dec (i < n) → (i < n) ⊎ (n ≤ i)
-    choose (yes l) = inl l
-    choose (no l) = inr (omega arith)
-
-or-test : (a b : Bool) → T (a || b) → (T a → ⊥) → T b
-or-test true b h no-a = absurd (no-a tt)
-or-test false b h no-a = h
-
-or-first : (a b : Bool) → T a → T (a || b)
-or-first true b h = tt
-or-first false b h = absurd h
-
-or-second : (a b : Bool) → T b → T (a || b)
-or-second true b h = tt
-or-second false b h = h
 
 -- a conjunction of five tests, and of seven
 module _ (a b c d e : Bool) where
@@ -291,3 +271,12 @@ module _ (c : Chain) where
       (facts-undone (c .«num_qubits») (c .«site_to_logical») (c .«logical_to_site») (h .qubits))
       (facts-centre (c .center) (c .«num_qubits») (h .centre))
       (facts-sized (h .sizes))
+
+-- ---- no bond is above the cap
+
+module _ (c : Chain) (h : Sound c) (k : ℕ) (l : k < c .«num_qubits») where
+  pub left-most : bondLeft c k ≤ c .«max_bond_dim»
+  left-most = omega (arith, h .bonds .left-range k l .1, h .high-water .1)
+
+  pub right-most : bondRight c k ≤ c .«max_bond_dim»
+  right-most = omega (arith, h .bonds .right-range k l .1, h .high-water .1)

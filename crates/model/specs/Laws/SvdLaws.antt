@@ -13,13 +13,13 @@ use Rattle.complex.specs.Complex.{real, scaleC, zeroC, zeroF, oneF}
 use Rattle.complex.specs.Loops.{each}
 use Rattle.complex.specs.Matrix.{cell-below, cell-column}
 use Rattle.complex.specs.Numbers.{count, at, store, length-store, at-store-same, at-store-other, each-length, each-apart}
-use Rattle.model.specs.Laws.ColumnLaws.{each-once, l2Norm-same, length-scaledTo, at-scaledTo, at-scaledTo-other, length-zeroed, at-zeroed, at-zeroed-other}
 use Rattle.model.specs.Columns.{l2Norm, scaledTo, zeroed}
+use Rattle.model.specs.Svd.{valuesAt, identityAt, normalised, factored, Svd, rawValue, anyNan, columnAt, valueAt, ordered, svd}
 use Rattle.model.specs.Statements.Factorings.{Converged, Exhausted, Settled, unsweptOf, sweptOf, columnNorm, ValueLaw, Decomposed, SvdLaw, TransposeLaw}
-use Rattle.model.specs.Jacobi.{sweeps}
+use Rattle.model.specs.Laws.ColumnLaws.{each-once, l2Norm-same, length-scaledTo, at-scaledTo, at-scaledTo-other, length-zeroed, at-zeroed, at-zeroed-other}
 use Rattle.model.specs.Laws.JacobiLaws.{length-sweeps, sweeps-settled, sweeps-end}
 use Rattle.model.specs.Laws.OrderLaws.{order-below, order-one, order-downward, order-stable}
-use Rattle.model.specs.Svd.{valuesAt, identityAt, normalised, factored, Svd, rawValue, anyNan, columnAt, valueAt, ordered, svd}
+use Rattle.model.specs.Laws.Tests.{either-way}
 
 -- ---- one column
 
@@ -36,20 +36,15 @@ module _ (high wide : ℕ) (clamp : Float) (j : ℕ) (w : List Float) where
 
   pub length-normalised : length (normalised high wide clamp j w) ≡ length w
   unfolding normalised
-  length-normalised = either (lt clamp norm)
-    where
-      either : (b : Bool) → length (choice b) ≡ length w
-      either true = length-scaledTo (j * high) (j * high) high (div binary64 oneF norm) valued ∙ length-store w (valuesAt high wide + j) (real norm)
-      either false = length-zeroed (j * high) high valued ∙ length-store w (valuesAt high wide + j) (real norm)
+  length-normalised =
+      let long = length-store w (valuesAt high wide + j) (real norm) in
+      either-way (λ (y : List Float). length y ≡ length w) (lt clamp norm) _ _ (length-scaledTo (j * high) (j * high) high (div binary64 oneF norm) valued ∙ long) (length-zeroed (j * high) high valued ∙ long)
 
   -- outside column j the list is the one with the value written
   outside : (k : ℕ) → ((r : ℕ) → r < high → k ≢ j * high + r) → at (normalised high wide clamp j w) k ≡ at valued k
   unfolding normalised
-  outside k apart = either (lt clamp norm)
-    where
-      either : (b : Bool) → at (choice b) k ≡ at valued k
-      either true = at-scaledTo-other (j * high) (j * high) high (div binary64 oneF norm) valued k apart
-      either false = at-zeroed-other (j * high) high valued k apart
+  outside k apart =
+      either-way (λ (y : List Float). at y k ≡ at valued k) (lt clamp norm) _ _ (at-scaledTo-other (j * high) (j * high) high (div binary64 oneF norm) valued k apart) (at-zeroed-other (j * high) high valued k apart)
 
   -- any number but column j's and value j
   pub at-normalised-other : (k : ℕ) → k ≢ valuesAt high wide + j → ((r : ℕ) → r < high → k ≢ j * high + r) → at (normalised high wide clamp j w) k ≡ at w k

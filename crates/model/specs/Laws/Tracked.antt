@@ -1,11 +1,11 @@
 -- A chain of bonds 1 whose sites hold one unit each: centre moves keep it, and a cut moves the bits of its two sites and multiplies the phase. By site; `Following.antt` says it by qubit.
 use mathlib.Core.Path.{_≡_, refl, ap, sym, _∙_, subst}
-use mathlib.Core.Bool.{Bool, true, false, not, _&&_, _||_, Bool·beq, cond}
-use mathlib.Core.Logic.{_≢_, _⊎_, inl, inr}
+use mathlib.Core.Bool.{Bool, true, false, not, _&&_, Bool·beq, cond}
+use mathlib.Core.Logic.{_≢_, _⊎_, inl, inr, ⊎-elim}
 use mathlib.Core.List.{List}
 use Prim.Native.Nat.{ℕ, zero, suc, _+_, _-_, _*_, _^_, _≤_, _<_, max}
-use native.Mathlib.Nat.{mul-le-mul, mul-le-mul-right}
-use native.Mathlib.Decide.{ℕ-discrete, decLt}
+use native.Mathlib.Nat.{mul-le-mul-right}
+use native.Mathlib.Decide.{ℕ-discrete}
 use native.Mathlib.Omega.{arith}
 use lib.Dec.{leb, ltb, eqb}
 use lib.Pow.{pow-mono}
@@ -19,26 +19,29 @@ use Rattle.complex.specs.Numbers.{numbers, length-numbers}
 use Rattle.complex.specs.Matrix.{rows, length-rows}
 use Rattle.complex.specs.declared.Complex.{Complex}
 use Rattle.model.specs.declared.Center.{Center}
-use Rattle.model.specs.declared.Center.the-variants.{Unknown, At}
+use Rattle.model.specs.declared.Center.the-variants.{At}
 use Rattle.model.specs.declared.WeightSide.{WeightSide}
 use Rattle.model.specs.declared.WeightSide.the-variants.{Left, Right}
+use Rattle.model.specs.declared.Projected.the-variants as projected
 use Rattle.model.specs.Chain.{withBond, withCenter, withTruncation}
 use Rattle.model.specs.Slots.{State, held, lefts, rights, slotRoom, storeRoom, slotOf, filled, withSite, siteAt}
-use Rattle.model.specs.Svd.{Svd, values}
-use Rattle.model.specs.Truncation.{rank, share, recorded, cutRank, workspace}
+use Rattle.model.specs.Svd.{Svd, values, uAt, vtAt, valueAt}
+use Rattle.model.specs.Truncation.{rank, share, recorded, workspace}
 use Rattle.model.specs.Qr.{Kept, qr}
-use Rattle.model.specs.Pair.{pairSvd, isometrySite, scaledSite, vtSite, scaledVtSite, leftSite, rightSite}
-use Rattle.model.specs.Moves.{qAt, pairStored, rightMatrix, leftMatrix, absorbedRight, absorbedLeft, rightFrom, leftFrom, stepRight, stepLeft, walkRight, walkLeft, moved, established, centeredOn, Prepared, prepared, preparedOn}
-use Rattle.model.specs.Cut.{known, canLose, Tried, tried, weightSite, cutStored, concluded, cutWith, attempt, ran, adjacent}
-use Rattle.model.specs.Born.{weight, total, drawn, projectedSite, resetSite, weightAt, totalAt, drawnAt, unlessClamped, projectedAt, resetAt}
+use Rattle.model.specs.Pair.{pairSvd, isometrySite, vtSite, leftSite, rightSite}
+use Rattle.model.specs.Moves.{qAt, pairStored, rightMatrix, leftMatrix, absorbedRight, absorbedLeft, rightFrom, leftFrom, stepRight, stepLeft, walkRight, walkLeft, moved, established, Prepared}
+use Rattle.model.specs.Cut.{Tried, tried, weightSite, cutStored, concluded, cutWith, attempt, ran, adjacent}
+use Rattle.model.specs.Born.{weight, total, drawn, projectedSite, resetSite, weightAt, totalAt, drawnAt, unlessClamped, projectedAt, resetAt, readied}
 use Rattle.model.specs.Calls.{projectAnswer}
-use Rattle.model.specs.declared.Projected.the-variants as projected
 use Rattle.model.specs.Phases.{Phase, _⊗_, one}
+use Rattle.model.specs.Statements.Table.{keepsCentre, preparedFor}
 use Rattle.model.specs.Laws.Units.{Holds, Moves, Fraction}
 use Rattle.model.specs.Laws.UnitCut.{cut-exact}
-use Rattle.model.specs.Laws.UnitMoves.{right-exact, left-exact}
-use Rattle.model.specs.Laws.UnitSites.{weight-is, total-is, drawn-is, clamped-is, projected-holds, reset-holds, holds-filled}
-use Rattle.model.specs.Laws.MoveLaws.{Apart, length-filled, site-apart}
+use Rattle.model.specs.Laws.UnitSites.{weight-is, total-is, drawn-is, clamped-is, projected-holds, reset-holds, holds-filled, right-exact, left-exact}
+use Rattle.model.specs.Laws.MoveLaws.{Apart, length-filled, site-apart, slot-four, readied-by, prepared-by}
+use Rattle.model.specs.Laws.SoundKept.{stored-centre}
+use Rattle.model.specs.Laws.CutLaws.{length-isometrySite, length-scaledSite, length-vtSite, length-scaledVtSite}
+use Rattle.model.specs.Laws.Tests.{trichotomy, either-way}
 
 -- ---- a function changed at one place
 
@@ -72,9 +75,6 @@ slot-same n d k xs store K room fits =
     let r = slotRoom d in
     part-put (k * r) (k * r + r) store (omega arith) (omega (arith, mul-le-mul-right {m = suc k} {n = n} r K)) (filled r xs) (length-filled r xs fits ∙ omega arith)
 
-pub slot-four : (d : ℕ) → 1 ≤ d → 4 ≤ slotRoom d
-slot-four d h = omega (arith, mul-le-mul h h)
-
 -- ---- what no call changes: the settings, and the length of the store
 
 pub record Setup : Type 0 where
@@ -104,17 +104,13 @@ pub record Fit (S : Setup) : Type 0 where
   pub clamp : Fraction (S .clamp)
   pub store : storeRoom (S .qubits) (S .cap) ≤ S .long
 
-abbrev pub Within : ℕ → Center → Type 0
-Within n Unknown = Unit {0}
-Within n (At k) = k < n
-
 -- every bond is 1, nothing is discarded, site k holds the phase p k at the bit b k, and the label maps are A and B
 pub record Tracked (S : Setup) (A B : List ℕ) (s : State) (b : ℕ → Bool) (p : ℕ → Phase) : Type 0 where
   pub same : setupOf s ≡ S
   pub lefts-one : (k : ℕ) → k < S .qubits → lefts s k ≡ 1
   pub rights-one : (k : ℕ) → k < S .qubits → rights s k ≡ 1
   pub holds : (k : ℕ) → k < S .qubits → Holds (siteAt s k) (b k) (p k)
-  pub within : Within (S .qubits) (s .chain .center)
+  pub centre : (k : ℕ) → s .chain .center ≡ At k → k < S .qubits
   pub high-one : s .chain .«bond_high_water» ≡ 1
   pub none : s .chain .«truncation_discarded» ≡ zeroF
   pub sites-are : s .chain .«logical_to_site» ≡ A
@@ -122,23 +118,13 @@ pub record Tracked (S : Setup) (A B : List ℕ) (s : State) (b : ℕ → Bool) (
 
 -- ---- sites of bonds 1 are four numbers long
 
-pub length-left : (side : WeightSide) (d : Svd) → length (leftSite side 1 1 d) ≡ 4
-unfolding isometrySite scaledSite rows numbers
-length-left Left d = refl
-length-left Right d = refl
+length-left : (side : WeightSide) (d : Svd) → length (leftSite side 1 1 d) ≡ 4
+length-left Left d = length-scaledSite 1 1 (uAt d) (valueAt d)
+length-left Right d = length-isometrySite 1 1 (uAt d)
 
-pub length-right : (side : WeightSide) (d : Svd) → length (rightSite side 1 1 d) ≡ 4
-unfolding vtSite scaledVtSite rows numbers
-length-right Left d = refl
-length-right Right d = refl
-
-length-isometry : (u : ℕ → ℕ → Complex) → length (isometrySite 1 1 u) ≡ 4
-unfolding isometrySite rows numbers
-length-isometry u = refl
-
-length-vt : (u : ℕ → ℕ → Complex) → length (vtSite 1 1 u) ≡ 4
-unfolding vtSite rows numbers
-length-vt u = refl
+length-right : (side : WeightSide) (d : Svd) → length (rightSite side 1 1 d) ≡ 4
+length-right Left d = length-vtSite 1 1 (vtAt d)
+length-right Right d = length-scaledVtSite 1 1 (vtAt d) (valueAt d)
 
 length-absorbedRight : (f : Kept) (next : List Float) → f .rank ≡ 1 → length (absorbedRight 1 1 1 f next) ≡ 4
 unfolding absorbedRight
@@ -163,11 +149,7 @@ unlike-self false e = let z : _≡_ {A = ℕ} 0 1 = cc in omega arith
 -- ---- sites written
 
 either-side : (j k : ℕ) → j ≢ k → (j < k) ⊎ (k < j)
-either-side j k n = go (decLt j k)
-  where
-    go : Dec (j < k) → (j < k) ⊎ (k < j)
-    go (yes l) = inl l
-    go (no l) = inr (omega (arith, n))
+either-side j k n = ⊎-elim (λ l. inl l) (⊎-elim (λ e. absurd (n e)) (λ l. inr l)) (trichotomy j k)
 
 module _ (S : Setup) (D : Fit S) (A B : List ℕ) where
   fitOf : (s : State) → setupOf s ≡ S → Fit (setupOf s)
@@ -215,7 +197,7 @@ module _ (S : Setup) (D : Fit S) (A B : List ℕ) where
       lefts-one = t .lefts-one;
       rights-one = t .rights-one;
       holds = λ j J. at-site j J (ℕ-discrete j k);
-      within = t .within;
+      centre = t .centre;
       high-one = t .high-one;
       none = t .none;
       sites-are = t .sites-are;
@@ -234,7 +216,7 @@ module _ (S : Setup) (D : Fit S) (A B : List ℕ) where
         lefts-one = λ j J. ap (λ (x : List ℕ). getD x j 0) (set-one (s .chain .«bond_left») (k + 1) (t .lefts-one (k + 1) K)) ∙ t .lefts-one j J;
         rights-one = λ j J. ap (λ (x : List ℕ). getD x j 0) (set-one (s .chain .«bond_right») k (t .rights-one k K')) ∙ t .rights-one j J;
         holds = t .holds;
-        within = t .within;
+        centre = t .centre;
         high-one = t .high-one;
         none = t .none;
         sites-are = t .sites-are;
@@ -260,7 +242,7 @@ module _ (S : Setup) (D : Fit S) (A B : List ℕ) where
     lefts-one = t .lefts-one;
     rights-one = t .rights-one;
     holds = λ j J. subst (λ (z : Bool). Holds (siteAt s j) z (p' j)) (sym (e j)) (subst (λ (z : Phase). Holds (siteAt s j) (b j) z) (sym (f j)) (t .holds j J));
-    within = t .within;
+    centre = t .centre;
     high-one = t .high-one;
     none = t .none;
     sites-are = t .sites-are;
@@ -293,7 +275,7 @@ module _ (S : Setup) (D : Fit S) (A B : List ℕ) where
         (sym ((λ i. rightFrom k (t .lefts-one k K' i) (t .rights-one k K' i) (t .rights-one (k + 1) K i) s
         (qr (2 * t .lefts-one k K' i) (t .rights-one k K' i) (rightMatrix (t .lefts-one k K' i) (t .rights-one k K' i) (siteAt s k))))
         ∙ (λ i. pairStored k (isometrySite 1 (x .bond i) (qAt 2 f)) (x .bond i) (absorbedRight 1 1 1 f (siteAt s (k + 1))) s)))
-        (rewritten s k (isometrySite 1 1 (qAt 2 f)) (absorbedRight 1 1 1 f (siteAt s (k + 1))) K t (length-isometry (qAt 2 f)) (subst (λ (c : ℕ). Holds (isometrySite 1 c (qAt 2 f)) (b k) (p k)) (x .bond) (x .left)) (length-absorbedRight f (siteAt s (k + 1)) (x .bond)) (x .right))
+        (rewritten s k (isometrySite 1 1 (qAt 2 f)) (absorbedRight 1 1 1 f (siteAt s (k + 1))) K t (length-isometrySite 1 1 (qAt 2 f)) (subst (λ (c : ℕ). Holds (isometrySite 1 c (qAt 2 f)) (b k) (p k)) (x .bond) (x .left)) (length-absorbedRight f (siteAt s (k + 1)) (x .bond)) (x .right))
 
     left-tracked : (k : ℕ) (s : State) → k + 1 < S .qubits → Tracked S A B s b p → Tracked S A B (stepLeft k s) b p
     unfolding stepLeft
@@ -306,7 +288,7 @@ module _ (S : Setup) (D : Fit S) (A B : List ℕ) where
         (sym ((λ i. leftFrom k (t .lefts-one k K' i) (t .lefts-one (k + 1) K i) (t .rights-one (k + 1) K i) s
         (qr (2 * t .rights-one (k + 1) K i) (t .lefts-one (k + 1) K i) (leftMatrix (t .lefts-one (k + 1) K i) (t .rights-one (k + 1) K i) (siteAt s (k + 1)))))
         ∙ (λ i. pairStored k (absorbedLeft 1 1 1 f (siteAt s k)) (x .bond i) (vtSite (x .bond i) 1 vt) s)))
-        (rewritten s k (absorbedLeft 1 1 1 f (siteAt s k)) (vtSite 1 1 vt) K t (length-absorbedLeft f (siteAt s k) (x .bond)) (x .left) (length-vt vt) (subst (λ (c : ℕ). Holds (vtSite c 1 vt) (b (k + 1)) (p (k + 1))) (x .bond) (x .right)))
+        (rewritten s k (absorbedLeft 1 1 1 f (siteAt s k)) (vtSite 1 1 vt) K t (length-absorbedLeft f (siteAt s k) (x .bond)) (x .left) (length-vtSite 1 1 vt) (subst (λ (c : ℕ). Holds (vtSite c 1 vt) (b (k + 1)) (p (k + 1))) (x .bond) (x .right)))
 
     walkRight-tracked : (n k : ℕ) (s : State) → k + n < S .qubits → Tracked S A B s b p → Tracked S A B (walkRight n k s) b p
     unfolding walkRight
@@ -318,13 +300,13 @@ module _ (S : Setup) (D : Fit S) (A B : List ℕ) where
     walkLeft-tracked zero k s N K t = t
     walkLeft-tracked (suc n) k s N K t = walkLeft-tracked n (k - 1) (stepLeft (k - 1) s) (omega arith) (omega arith) (left-tracked (k - 1) s (omega arith) t)
 
-    centre-tracked : (s : State) (c : Center) → Within (S .qubits) c → Tracked S A B s b p → Tracked S A B (held (withCenter (s .chain) c) (s .store)) b p
+    centre-tracked : (s : State) (c : Center) → ((k : ℕ) → c ≡ At k → k < S .qubits) → Tracked S A B s b p → Tracked S A B (held (withCenter (s .chain) c) (s .store)) b p
     centre-tracked s c w t = record {
       same = t .same;
       lefts-one = t .lefts-one;
       rights-one = t .rights-one;
       holds = t .holds;
-      within = w;
+      centre = w;
       high-one = t .high-one;
       none = t .none;
       sites-are = t .sites-are;
@@ -334,37 +316,25 @@ module _ (S : Setup) (D : Fit S) (A B : List ℕ) where
     moved-tracked : (from to : ℕ) (s : State) → from < S .qubits → to < S .qubits → Tracked S A B s b p → Tracked S A B (moved from to s) b p
     unfolding moved
     moved-tracked from to s F G t =
-        centre-tracked (walkLeft (from - to) from (walkRight (to - from) from s)) (At to) G
+        centre-tracked (walkLeft (from - to) from (walkRight (to - from) from s)) (At to) (λ k e. let same : to ≡ k = cc in omega arith)
         (walkLeft-tracked (from - to) from (walkRight (to - from) from s) (omega arith) F (walkRight-tracked (to - from) from s (omega arith) t))
 
     established-tracked : (to : ℕ) (s : State) → to < S .qubits → Tracked S A B s b p → Tracked S A B (established to s) b p
     unfolding established
-    established-tracked to s G t = go (leb (2 * to) last)
-      where
-        last : ℕ
-        last = s .chain .«num_qubits» - 1
+    established-tracked to s G t =
+        let two : 2 ≤ S .qubits = D .two in
+        let n : s .chain .«num_qubits» ≡ S .qubits = ap (λ (x : Setup). x .qubits) (t .same) in
+        let last = s .chain .«num_qubits» - 1 in
+        let twice : (i j : ℕ) → i < S .qubits → j < S .qubits → Tracked S A B (moved j to (moved i j s)) b p = λ i j I J. moved-tracked j to (moved i j s) J G (moved-tracked i j s I J t) in
+        either-way (λ (x : State). Tracked S A B x b p) (leb (2 * to) last) _ _ (twice last 0 (omega arith) (omega arith)) (twice 0 last (omega arith) (omega arith))
 
-        first-below : 0 < S .qubits
-        first-below = let n : 2 ≤ S .qubits = D .two in omega arith
+    pub readied-tracked : (k : ℕ) (s : State) → k < S .qubits → Tracked S A B s b p → Tracked S A B (readied k s) b p
+    readied-tracked k s K t =
+        readied-by (λ (x : State). Tracked S A B x b p) k s (λ e. established-tracked k s K t) (λ from e. moved-tracked from k s (t .centre from e) K t)
 
-        last-below : last < S .qubits
-        last-below = let n : s .chain .«num_qubits» ≡ S .qubits = ap (λ (x : Setup). x .qubits) (t .same) in omega (arith, first-below)
-
-        go : (c : Bool) → Tracked S A B (cond c (moved 0 to (moved last 0 s)) (moved last to (moved 0 last s))) b p
-        go true = moved-tracked 0 to (moved last 0 s) first-below G (moved-tracked last 0 s last-below first-below t)
-        go false = moved-tracked last to (moved 0 last s) last-below G (moved-tracked 0 last s first-below last-below t)
-
-    pub centeredOn-tracked : (k : ℕ) (c : Center) (s : State) → k < S .qubits → Within (S .qubits) c → Tracked S A B s b p → Tracked S A B (centeredOn k c s) b p
-    centeredOn-tracked k (At from) s K w t = moved-tracked from k s w K t
-    centeredOn-tracked k Unknown s K w t = established-tracked k s K t
-
-    preparedOn-tracked : (k : ℕ) (c : Center) (s : State) → k + 1 < S .qubits → Within (S .qubits) c → Tracked S A B s b p → Tracked S A B (preparedOn k c s .state) b p
-    preparedOn-tracked k (At from) s K w t = go (leb from k)
-      where
-        go : (c : Bool) → Tracked S A B ((cond {A = Prepared} c (prepared Right (moved from k s)) (prepared Left (moved from (k + 1) s))) .state) b p
-        go true = moved-tracked from k s w (omega arith) t
-        go false = moved-tracked from (k + 1) s w K t
-    preparedOn-tracked k Unknown s K w t = established-tracked k s (omega arith) t
+    prepared-tracked : (k : ℕ) (s : State) → k + 1 < S .qubits → Tracked S A B s b p → Tracked S A B (preparedFor k s .state) b p
+    prepared-tracked k s K t =
+        prepared-by (λ (x : State). Tracked S A B x b p) k s t (λ e. established-tracked k s (omega arith) t) (λ from to e l m. moved-tracked from to s (t .centre from e) (omega arith) t)
 
     -- ---- a cut
     module _ (gate : List (List Complex)) (G : Moves gate) (k : ℕ) (K : k + 1 < S .qubits) where
@@ -377,11 +347,6 @@ module _ (S : Setup) (D : Fit S) (A B : List ℕ) where
       -- the cut is stored: not refused, not made again
       abbrev Stored : Tried → Type 0
       Stored a = (t : State) × (a ≡ tried 0 false t) × Tracked S A B t movedBits movedPhases
-
-      side-within : (maintained : Bool) (side : WeightSide) (c : Center) → Within (S .qubits) c → Within (S .qubits) (cond maintained (At (weightSite side k)) c)
-      side-within true Left c w = omega arith
-      side-within true Right c w = K
-      side-within false side c w = w
 
       -- the state that a cut leaves, by its two sites and the discarded weight
       abbrev cutWritten : Bool → WeightSide → State → List Float → List Float → ℕ → Float → State
@@ -399,7 +364,7 @@ module _ (S : Setup) (D : Fit S) (A B : List ℕ) where
             lefts-one = u .lefts-one;
             rights-one = u .rights-one;
             holds = u .holds;
-            within = side-within maintained side (s .chain .center) (t .within);
+            centre = stored-centre (S .qubits) k K maintained side (s .chain .center) (t .centre);
             high-one = e;
             none = f;
             sites-are = u .sites-are;
@@ -435,10 +400,6 @@ module _ (S : Setup) (D : Fit S) (A B : List ℕ) where
                 (λ i. max (t .high-one i) 1) (ap (λ (z : Float). recorded z (share (values d) 1)) (t .none) ∙ ap (λ (c : ℕ). recorded zeroF (share (values d) c)) (sym (x .bond)) ∙ x .discarded),
           )
 
-      prepared-tracked : (s : State) (maintained : Bool) → Tracked S A B s b p → Tracked S A B ((cond maintained (preparedOn k (s .chain .center) s) (prepared Right s)) .state) b p
-      prepared-tracked s true t = preparedOn-tracked k (s .chain .center) s K (t .within) t
-      prepared-tracked s false t = t
-
       -- a cut of bonds 1, 1, 1 works in 22 numbers
       roomy : (e : ℕ) → 5 ≤ e → ltb (2 ^ e) 22 ≡ false
       roomy e h = le-ltb (2 ^ e) 22 (let m : 2 ^ 5 ≤ 2 ^ e = pow-mono h in omega arith)
@@ -447,12 +408,11 @@ module _ (S : Setup) (D : Fit S) (A B : List ℕ) where
       unfolding attempt
       attempt-stored s t =
           let K' : k < S .qubits = omega arith in
-          let maintained = known (s .chain .center) || canLose (s .chain) (cutRank (lefts s k) (rights s k) (rights s (k + 1))) in
-          let ready = cond maintained (preparedOn k (s .chain .center) s) (prepared Right s) in
-          let c = cut-stored maintained ready (prepared-tracked s maintained t) in (
+          let cut = cutWith gate k (keepsCentre k s) (preparedFor k s) in
+          let c = cut-stored (keepsCentre k s) (preparedFor k s) (prepared-tracked k s K t) in (
             c .0,
-            (λ i. cond (ltb (2 ^ s .chain .«workspace_exponent») (workspace (t .lefts-one k K' i) (t .rights-one k K' i) (t .rights-one (k + 1) K i))) (tried 6 false s) (cutWith gate k maintained ready))
-                ∙ ap (λ (x : Bool). cond x (tried 6 false s) (cutWith gate k maintained ready)) (roomy (s .chain .«workspace_exponent») (fitOf s (t .same) .room))
+            (λ i. cond (ltb (2 ^ s .chain .«workspace_exponent») (workspace (t .lefts-one k K' i) (t .rights-one k K' i) (t .rights-one (k + 1) K i))) (tried 6 false s) cut)
+                ∙ ap (λ (x : Bool). cond x (tried 6 false s) cut) (roomy (s .chain .«workspace_exponent») (fitOf s (t .same) .room))
                 ∙ c .1,
             c .2,
           )

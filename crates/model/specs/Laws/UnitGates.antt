@@ -63,13 +63,6 @@ named-moves name = record { first = namedFirst name; second = namedSecond name; 
 abbrev pub swap-moves : Moves (matrixOf Swap)
 swap-moves = named-moves Swap
 
--- they meet the machine's condition
-pub named-monomial : (name : NamedGate) → T (monomial (matrixOf name))
-unfolding monomial every each isZero isPhase equals matrixOf namedEntry gateOf eq neg ofBits
-named-monomial Swap = tt
-named-monomial Cx = tt
-named-monomial Cz = tt
-
 -- ---- indices
 
 pub num-below : (a b : Bool) → num a b < 4

@@ -13,7 +13,7 @@ use Rattle.complex.specs.Complex.{addC, mulC, conjC, normSqr, scaleC, isZero, r
 use Rattle.gates.specs.Gate.{entry}
 use Rattle.model.specs.Slots.{amplitude}
 use Rattle.model.specs.Born.{bitOf}
-use Rattle.model.specs.Phases.{Phase, phase, one, _⊗_, phaseC, equals, isPhase, readPhase}
+use Rattle.model.specs.Phases.{Phase, phase, one, _⊗_, phaseC, equals, readPhase}
 
 -- ---- values
 
@@ -332,20 +332,10 @@ is-phase {p = p} h = (λ i. readPhase (h .path i)) ∙ phase-shape p (h .s) (h .
 abbrev equalTest : Phase → Bool → Bool → Bool
 equalTest p s t = equals (shape (unit p) s t) (phaseC p)
 
-abbrev unitTest : Phase → Bool → Bool → Bool
-unitTest p s t = isPhase (shape (unit p) s t)
-
 equal-test : T (phases (λ p. signs (equalTest p)))
 unfolding equals eq ofBits neg
 equal-test = tt
 
-unit-test : T (phases (λ p. signs (unitTest p)))
-unfolding equals isPhase eq ofBits neg
-unit-test = tt
-
 pub is-equal : {z : Complex} {p : Phase} → Is z (unit p) → T (equals z (phaseC p))
 is-equal {p = p} h =
     subst (λ (z : Complex). T (equals z (phaseC p))) (sym (h .path)) (signs-at (equalTest p) (phases-at (λ p. signs (equalTest p)) equal-test p) (h .s) (h .t))
-
-pub is-unit : {z : Complex} {p : Phase} → Is z (unit p) → T (isPhase z)
-is-unit {p = p} h = subst (λ (z : Complex). T (isPhase z)) (sym (h .path)) (signs-at (unitTest p) (phases-at (λ p. signs (unitTest p)) unit-test p) (h .s) (h .t))

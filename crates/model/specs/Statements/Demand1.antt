@@ -1,9 +1,10 @@
--- DEMAND 1: what every call answers, and what it leaves of its record and slices, on all inputs. Statements only; `Demand1Proofs.antt` proves them.
+-- DEMAND 1: what every call answers, and what it leaves of its record and slices, on all inputs. Where a gate stops that 6 or 7 refuses, `Demand1Cuts` says.
+-- Statements only; `Laws/Demand1Proofs` proves them.
 use Prim.Native.Nat.{ℕ, _*_, _+_, _-_, _≤_, _<_, min, max}
 use mathlib.Core.Path.{_≡_}
 use mathlib.Core.Logic.{_⊎_, _↔_}
 use mathlib.Core.Bool.{Bool, not}
-use mathlib.Core.List.{List, _∷_, _++_}
+use mathlib.Core.List.{List}
 use lib.Dec.{T}
 use lib.ListN.{length, take, drop, replicate}
 use lib.Ieee.{Float, binary64, div, le}
@@ -18,15 +19,13 @@ use Rattle.model.specs.declared.Projected.{Projected}
 use Rattle.model.specs.declared.Projected.the-variants as projected
 use Rattle.model.specs.Chain.{siteOf}
 use Rattle.model.specs.Slots.{State, slotOf}
-use Rattle.model.specs.Moves.{established}
-use Rattle.model.specs.Routing.{Step, runSteps}
 use Rattle.model.specs.Born.{weightAt, totalAt, drawnAt, readied}
 use Rattle.model.specs.Environment.{Env, leftEnv, rightEnv}
 use Rattle.model.specs.Start.{zeroChain}
 use Rattle.model.specs.Answers.{viewAnswer, viewApplied, viewProjected, viewMeasured, viewContracted}
 use Rattle.model.specs.Calls.{After, Started, Walked, startCall, gateCall, namedGateCall, projectCall, measureCall, resetCall, leftEnvironmentCall, rightEnvironmentCall}
 use Rattle.model.specs.Lists.{left}
-use Rattle.model.specs.Statements.Table.{FirstGround, AboveWorkspace, preparedFor, FirstNan, SecondNan, gateSteps, startTable, gateTable, projectTable, measureTable, resetTable, environmentTable}
+use Rattle.model.specs.Statements.Table.{FirstGround, startTable, gateTable, projectTable, measureTable, resetTable, environmentTable}
 
 -- ---- the number: that of the first ground in the call's table; with none the call is accepted
 
@@ -124,33 +123,6 @@ pub record Remains : Type 0 where
       (let a = leftEnvironmentCall s work out from site in EnvironmentLeaves s work out (viewContracted (a .answer) .number) (leftEnv from site s) a)
   pub right-environment : (s : State) (work out : List Float) (site to : ℕ) →
       (let a = rightEnvironmentCall s work out site to in EnvironmentLeaves s work out (viewContracted (a .answer) .number) (rightEnv site to s) a)
-
--- ---- where a gate stops
-
--- a cut of the route, with those before it done; `Stands` relates the cut and the state that those before it left
-pub record Stopped (steps : List Step) (s : State) (Stands : Step → State → Type 0) : Type 0 where
-  pub before : List Step
-  pub cut : Step
-  pub rest : List Step
-  pub route : steps ≡ before ++ (cut ∷ rest)
-  pub done : runSteps before s .refused ≡ 0
-  pub stands : Stands cut (runSteps before s .state)
-
--- refused by 6: the swaps before the cut stand, and the cut is untouched
-abbrev pub StandsBySix : State → Step → State → Type 0
-StandsBySix u x t = AboveWorkspace (x .site) t × (u ≡ t)
-
--- refused by 7: the swaps before the cut and any centre move stand, and the cut is not stored
-abbrev pub StandsBySeven : State → Step → State → Type 0
-StandsBySeven u x t =
-    (FirstNan (x .gate) (x .site) t × (u ≡ preparedFor (x .site) t .state))
-    ⊎ (SecondNan (x .gate) (x .site) t × (u ≡ preparedFor (x .site) (established (x .site) t) .state))
-
-pub record Stops : Type 0 where
-  pub six : (s : State) (work : List Float) (q0 q1 : ℕ) (gate : List (List Complex)) →
-      (let a = gateCall s work q0 q1 gate in viewApplied (a .answer) .number ≡ 6 → Stopped (gateSteps s q0 q1 gate) s (StandsBySix (left a)))
-  pub seven : (s : State) (work : List Float) (q0 q1 : ℕ) (gate : List (List Complex)) →
-      (let a = gateCall s work q0 q1 gate in viewApplied (a .answer) .number ≡ 7 → Stopped (gateSteps s q0 q1 gate) s (StandsBySeven (left a)))
 
 -- ---- Nothing is answered exactly where the outcome's Born weight, not yet divided by the total, is at most the clamp
 

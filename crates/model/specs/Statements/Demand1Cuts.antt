@@ -1,24 +1,68 @@
--- DEMAND 1 of cuts. (e) What the discarded weight is after every call. (f) What a gate leaves that is refused at a cut. Statements only; `Demand1CutsProof.antt` proves them.
-use Prim.Native.Nat.{ℕ, _<_}
+-- DEMAND 1 of cuts. (e) What the discarded weight is after every call. (f) What a gate leaves that is done, and one that is refused at a cut.
+-- Statements only; `Laws/CutShares` and `Laws/Gates` prove them.
+use Prim.Native.Nat.{ℕ, _+_, _-_, _≤_, min, max}
 use mathlib.Core.Path.{_≡_}
 use mathlib.Core.Logic.{_⊎_}
-use mathlib.Core.List.{List, _∷_, foldl}
-use lib.Dec.{T}
-use lib.ListN.{length, take, drop}
+use mathlib.Core.Bool.{_&&_, cond}
+use mathlib.Core.List.{List, [], _∷_, _++_, map, foldl}
+use lib.Dec.{eqb, ltb, leb}
+use lib.ListN.{length, getD, set}
 use lib.Ieee.{Float, binary64, add}
+use Rattle.complex.specs.Loops.{tabulate}
 use Rattle.complex.specs.declared.Complex.{Complex}
 use Rattle.gates.specs.Named.{matrixOf}
 use Rattle.gates.specs.declared.NamedGate.{NamedGate}
 use Rattle.model.specs.declared.Applied.{Applied}
 use Rattle.model.specs.declared.Applied.the-variants as applied
-use Rattle.model.specs.Chain.{siteOf}
+use Rattle.model.specs.declared.Chain.{Chain}
 use Rattle.model.specs.Slots.{State}
-use Rattle.model.specs.Routing.{Step, routeOf, stepsOf, runSteps}
+use Rattle.model.specs.Svd.{Svd, values}
+use Rattle.model.specs.Truncation.{share}
+use Rattle.model.specs.Moves.{established}
+use Rattle.model.specs.Cut.{attempt}
+use Rattle.model.specs.Routing.{Step, stepped, runSteps}
+use Rattle.model.specs.Answers.{viewApplied}
 use Rattle.model.specs.Calls.{After, gateRefusal, gateCall, namedGateCall}
-use Rattle.model.specs.Lists.{Call, left, stateOf, finalState}
-use Rattle.model.specs.Laws.CutCases.{overWorkspace, ready, cutSvd, meetsNan}
-use Rattle.model.specs.Laws.CutShares.{discarded, sharesOf, callShares, listShares}
-use Rattle.model.specs.Laws.RouteLabels.{labelsOf, labelsAfter, exchangedAll, swapsOf}
+use Rattle.model.specs.Lists.{Call, gate, named, project, measure, reset, left, stateOf, finalState}
+use Rattle.model.specs.Statements.Table.{AboveWorkspace, preparedFor, pairOf, rankOf, FirstNan, SecondNan, gateSteps}
+
+-- ---- the shares of the cuts that are stored
+
+-- the state in which a cut of the pair k, k + 1 is made: where its first attempt would lose weight without a centre, one is established
+abbrev pub madeIn : List (List Complex) → ℕ → State → State
+madeIn g k s = cond (attempt g k s .again) (established k s) s
+
+-- the decomposition that it stores
+abbrev pub cutSvd : List (List Complex) → ℕ → State → Svd
+cutSvd g k s = pairOf g k (preparedFor k (madeIn g k s) .state)
+
+-- what it records if it is stored: the share of its values past the kept rank; nothing where nothing is dropped, or the total is at most 0
+abbrev pub cutShare : List (List Complex) → ℕ → State → List Float
+cutShare g k s = let d = cutSvd g k s in share (values d) (rankOf s d)
+
+-- of a run, in order: a step that is refused stores no cut and ends the run
+unfoldable pub sharesOf : List Step → State → List Float
+sharesOf [] s = []
+sharesOf (x ∷ xs) s = cond (eqb (stepped x s .refused) 0) (cutShare (x .gate) (x .site) s ++ sharesOf xs (stepped x s .state)) []
+
+-- of a call: only a gate that is not refused by 3, 2, 4 or 5 stores cuts
+abbrev pub gateShares : State → List Float → ℕ → ℕ → List (List Complex) → List Float
+gateShares s work q0 q1 g = cond (eqb (gateRefusal s work q0 q1 g) 0) (sharesOf (gateSteps s q0 q1 g) s) []
+
+unfoldable pub callShares : Call → State → List Float
+callShares (gate q0 q1 g work) s = gateShares s work q0 q1 g
+callShares (named q0 q1 name work) s = gateShares s work q0 q1 (matrixOf name)
+callShares (project q o work) s = []
+callShares (measure q flag draw work) s = []
+callShares (reset q draw work) s = []
+
+-- of a list of calls
+abbrev pub listShares : List Call → State → List Float
+listShares [] s = []
+listShares (c ∷ cs) s = callShares c s ++ listShares cs (stateOf c s)
+
+abbrev pub discarded : State → Float
+discarded s = s .chain .«truncation_discarded»
 
 -- ---- (e) The discarded weight after a call, refused or not, is the weight before with the shares of the call's stored cuts added in their order, the swaps' cuts
 -- included. A call that is no gate, or that 3, 2, 4 or 5 refuse, has no shares; a gate that 6 or 7 refuse has those of the cuts before.
@@ -29,37 +73,80 @@ WeightOfCall = (c : Call) (s : State) → discarded (stateOf c s) ≡ foldl (add
 unfoldable pub WeightOfList : Type 0
 WeightOfList = (cs : List Call) (s : State) → discarded (finalState cs s) ≡ foldl (add binary64) (discarded s) (listShares cs s)
 
--- ---- (f) A gate that 3, 2, 4 and 5 do not refuse is done, or stops at a cut
+-- ---- labels
 
-abbrev pub stepsFor : List (List Complex) → ℕ → ℕ → State → List Step
-stepsFor g q0 q1 s = stepsOf g (routeOf (siteOf (s .chain) q0) (siteOf (s .chain) q1))
+-- the two maps: the site of each qubit, and the qubit at each site
+pub record Labels : Type 0 where
+  pub sites : List ℕ
+  pub qubits : List ℕ
 
--- Refused at the cut of place j, the call leaves t, the record and store after the first j cuts, by the fold that an accepted call is. With 7 it leaves also this cut's
--- centre move: `ready`, which is t where the cut makes none.
-pub record StopsAt (steps : List Step) (s : State) (r : After Applied) : Type 0 where
-  pub j : ℕ
-  pub step : Step
+abbrev pub labelsOf : Chain → Labels
+labelsOf c = record { sites = c .«logical_to_site»; qubits = c .«site_to_logical» }
+
+-- the qubits at sites k and k + 1 exchanged, in both maps; and swaps in turn
+abbrev pub exchanged : ℕ → Labels → Labels
+exchanged k l =
+    let a = getD (l .qubits) k 0 in
+    let b = getD (l .qubits) (k + 1) 0 in
+    record { sites = set (set (l .sites) a (k + 1)) b k; qubits = set (set (l .qubits) k b) (k + 1) a }
+
+abbrev pub exchangedAll : List ℕ → Labels → Labels
+exchangedAll [] l = l
+exchangedAll (k ∷ ks) l = exchangedAll ks (exchanged k l)
+
+-- the sites at which a run's swaps stand
+abbrev pub swapsOf : List Step → List ℕ
+swapsOf [] = []
+swapsOf (x ∷ xs) = cond (x .relabels) (x .site ∷ swapsOf xs) (swapsOf xs)
+
+-- The labels after a gate, in closed form, its qubits' sites being near and far, near below far.
+-- Where the qubit at site k goes: from far to near + 1, from a site between them one up, from any other it stays
+abbrev pub siteAfter : ℕ → ℕ → ℕ → ℕ
+siteAfter near far k = cond (eqb k far) (near + 1) (cond (ltb near k && ltb k far) (k + 1) k)
+
+-- the site from which the qubit at site k comes
+abbrev pub siteBefore : ℕ → ℕ → ℕ → ℕ
+siteBefore near far k = cond (eqb k (near + 1)) far (cond (ltb (near + 1) k && leb k far) (k - 1) k)
+
+unfoldable pub labelsAfter : Labels → ℕ → ℕ → Labels
+labelsAfter l q0 q1 =
+    let p = getD (l .sites) q0 0 in
+    let q = getD (l .sites) q1 0 in
+    record {
+      sites = map (siteAfter (min p q) (max p q)) (l .sites);
+      qubits = tabulate (length (l .qubits)) (λ k. getD (l .qubits) (siteBefore (min p q) (max p q) k) 0);
+    }
+
+-- ---- (f) A gate that is refused at a cut leaves what the cuts before it left, and its labels and its discarded weight are those of the cuts before
+
+-- by 6: the cut is untouched; t is the state that the cuts before it left
+abbrev pub StandsBySix : After Applied → Step → State → Type 0
+StandsBySix a x t = (a .answer ≡ applied.Refused 6) × AboveWorkspace (x .site) t × (left a ≡ t)
+
+-- by 7: any centre move of this cut stands too, and the cut is not stored
+abbrev pub StandsBySeven : After Applied → Step → State → Type 0
+StandsBySeven a x t =
+    (a .answer ≡ applied.Refused 7)
+    × ((FirstNan (x .gate) (x .site) t × (left a ≡ preparedFor (x .site) t .state))
+    ⊎ (SecondNan (x .gate) (x .site) t × (left a ≡ preparedFor (x .site) (established (x .site) t) .state)))
+
+-- `before` are the cuts before it, done by the fold that an accepted gate is
+pub record StopsAt (steps : List Step) (s : State) (a : After Applied) : Type 0 where
+  pub before : List Step
+  pub cut : Step
   pub rest : List Step
-  pub below : j < length steps
-  pub there : drop j steps ≡ step ∷ rest
-  pub before : runSteps (take j steps) s .refused ≡ 0
-  pub stop : (let t = runSteps (take j steps) s .state in
-      ((r .answer ≡ applied.Refused 6) × T (overWorkspace (step .site) t) × (left r ≡ t))
-      ⊎ ((r .answer ≡ applied.Refused 7) × T (meetsNan (cutSvd (step .gate) (step .site) t)) × (left r ≡ ready (step .gate) (step .site) t .state)))
-  -- the discarded weight is the fold over the first j cuts: the refused one adds nothing
-  pub weight : discarded (left r) ≡ foldl (add binary64) (discarded s) (sharesOf (take j steps) s)
-  -- the labels are those of the swaps among the first j cuts: a refused swap exchanges none
-  pub labels : labelsOf (r .chain) ≡ exchangedAll (swapsOf (take j steps)) (labelsOf (s .chain))
+  pub route : steps ≡ before ++ (cut ∷ rest)
+  pub done : runSteps before s .refused ≡ 0
+  pub stands : (let t = runSteps before s .state in StandsBySix a cut t ⊎ StandsBySeven a cut t)
+  -- the refused cut adds no weight, and a refused swap exchanges no labels
+  pub weight : discarded (left a) ≡ foldl (add binary64) (discarded s) (sharesOf before s)
+  pub labels : labelsOf (a .chain) ≡ exchangedAll (swapsOf before) (labelsOf (s .chain))
 
--- done, with the labels of the closed form; or stopped
-abbrev pub DoneOrStops : List (List Complex) → ℕ → ℕ → State → After Applied → Type 0
-DoneOrStops g q0 q1 s r =
-    ((r .answer ≡ applied.Done) × (labelsOf (r .chain) ≡ labelsAfter (labelsOf (s .chain)) q0 q1)) ⊎ StopsAt (stepsFor g q0 q1 s) s r
+-- a gate on q0 and q1: done, with the labels of the closed form, or stopped
+pub record GateEnds (s : State) (q0 q1 : ℕ) (g : List (List Complex)) (a : After Applied) : Type 0 where
+  pub done : viewApplied (a .answer) .number ≡ 0 → labelsOf (a .chain) ≡ labelsAfter (labelsOf (s .chain)) q0 q1
+  pub stopped : 6 ≤ viewApplied (a .answer) .number → StopsAt (gateSteps s q0 q1 g) s a
 
-unfoldable pub GateStops : Type 0
-GateStops = (s : State) (work : List Float) (q0 q1 : ℕ) (g : List (List Complex)) → gateRefusal s work q0 q1 g ≡ 0 → DoneOrStops g q0 q1 s (gateCall s work q0 q1 g)
-
-unfoldable pub NamedGateStops : Type 0
-NamedGateStops =
-    (s : State) (work : List Float) (q0 q1 : ℕ) (name : NamedGate) → gateRefusal s work q0 q1 (matrixOf name) ≡ 0
-    → DoneOrStops (matrixOf name) q0 q1 s (namedGateCall s work q0 q1 name)
+pub record Stops : Type 0 where
+  pub gate : (s : State) (work : List Float) (q0 q1 : ℕ) (g : List (List Complex)) → GateEnds s q0 q1 g (gateCall s work q0 q1 g)
+  pub named : (s : State) (work : List Float) (q0 q1 : ℕ) (name : NamedGate) → GateEnds s q0 q1 (matrixOf name) (namedGateCall s work q0 q1 name)

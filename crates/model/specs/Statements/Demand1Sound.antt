@@ -1,6 +1,6 @@
 -- DEMAND 1, from a sound record: every call, refused or accepted, leaves label maps inverse to each other, neighbouring bonds equal and no bond above the cap;
 -- an accepted start's record is sound; and a cut that is made again after a centre is established is never refused by 6 then, so that a cut refused by 6 is untouched.
--- Nothing is asked of the store, of the work slice or of a call's other arguments. `SoundKept.antt` and `SecondCut.antt` prove it.
+-- Nothing is asked of the store, of the work slice or of a call's other arguments. `Laws/SoundKept`, `Laws/StartLaws` and `Laws/CutEnds` prove it.
 use Prim.Native.Nat.{ℕ, _+_, _≤_, _<_}
 use mathlib.Core.Path.{_≡_}
 use mathlib.Core.Logic.{_≢_}
@@ -20,8 +20,9 @@ use Rattle.model.specs.Sound.{sound}
 use Rattle.model.specs.Calls.{startCall}
 use Rattle.model.specs.Lists.{Call, gate, named, project, measure, reset, stateOf, finalState}
 use Rattle.model.specs.Laws.SoundFacts.{Sound, sound-facts, facts-sound}
-use Rattle.model.specs.Laws.SoundKept.{Keeps, keeps-none, keeps-then, gateCall-keeps, namedGateCall-keeps, projectCall-keeps, measureCall-keeps, resetCall-keeps, start-sound}
-use Rattle.model.specs.Laws.SecondCut.{second-cut-roomy, untouched-by-6}
+use Rattle.model.specs.Laws.SoundKept.{Keeps, keeps-none, keeps-then, gateCall-keeps, namedGateCall-keeps, projectCall-keeps, measureCall-keeps, resetCall-keeps}
+use Rattle.model.specs.Laws.StartLaws.{start-sound}
+use Rattle.model.specs.Laws.CutEnds.{second-not-6, untouched-by-6}
 
 -- ---- (c)
 
@@ -67,7 +68,7 @@ call-orderly c s h = let x = call-keeps c s h in sound-orderly (s .chain .«num_
 
 module _ (gate : List (List Complex)) (k : ℕ) (s : State) (h : T (sound (s .chain))) (inside : k + 1 < s .chain .«num_qubits») where
   pub second-cut-not-6 : attempt gate k s .again ≡ true → attempt gate k (established k (attempt gate k s .state)) .refused ≢ 6
-  second-cut-not-6 again = second-cut-roomy gate k s (sound-facts (s .chain) h) inside again
+  second-cut-not-6 again = second-not-6 gate k s (sound-facts (s .chain) h) inside again
 
   pub cut-6-untouched : adjacent gate k s .refused ≡ 6 → adjacent gate k s .state ≡ s
   cut-6-untouched six = untouched-by-6 gate k s (sound-facts (s .chain) h) inside six

@@ -1,5 +1,5 @@
 -- DEMAND 3. On a fresh chain of two or more qubits with workspace exponent 5 or more, every list of calls whose gates only move bits and phases answers as the
--- bits-and-phase machine does, and leaves the chain following it. Statements only; `ListUnit.antt` and `Product.antt` prove them.
+-- bits-and-phase machine does, and leaves the chain following it. Statements only; `Laws/Demand3Proof` and `Laws/Demand3Product` prove them.
 use Prim.Native.Nat.{ℕ, _+_, _-_, _≤_, _<_}
 use mathlib.Core.Path.{_≡_}
 use mathlib.Core.Bool.{Bool, not, cond}
@@ -12,6 +12,7 @@ use Rattle.complex.specs.Loops.{each, sumC}
 use Rattle.complex.specs.declared.Complex.{Complex}
 use Rattle.gates.specs.Gate.{entry, gateOf}
 use Rattle.gates.specs.Named.{matrixOf}
+use Rattle.gates.specs.declared.NamedGate.{NamedGate}
 use Rattle.model.specs.declared.Answer.the-variants as answer
 use Rattle.model.specs.declared.Projected.the-variants as projected
 use Rattle.model.specs.Chain.{bondLeft, bondRight, siteOf, qubitAt}
@@ -19,7 +20,6 @@ use Rattle.model.specs.Slots.{State, held, workRoom, siteAt, amplitude}
 use Rattle.model.specs.Born.{bitOf, weightAt, readied}
 use Rattle.model.specs.Phases.{phaseC, equals}
 use Rattle.model.specs.Calls.{startCall, projectCall}
-use Rattle.gates.specs.declared.NamedGate.{NamedGate}
 use Rattle.model.specs.Answers.{accepted, none}
 use Rattle.model.specs.Lists.{Call, gate, named, project, measure, reset, answerOf, stateOf, finalState, answersOf}
 use Rattle.model.specs.Machine.{Machine, fresh, machineAnswers, machineAfter, allAllowed}

@@ -12,11 +12,11 @@ use Rattle.complex.specs.Complex.{addC, subC, mulC, scaleC, real, zeroC, zeroF,
 use Rattle.complex.specs.Loops.{each}
 use Rattle.complex.specs.Numbers.{count, at}
 use Rattle.complex.specs.declared.Complex.{Complex}
+use Rattle.model.specs.declared.Rotation.{Rotation}
 use Rattle.model.specs.Columns.{l2Norm}
 use Rattle.model.specs.Jacobi.{gram, skipped, rotation, rotatedP, rotatedQ, rotated, Swept, swept, pairStep, sweep, sweeps}
 use Rattle.model.specs.Qr.{dot, entryAt, projectedOn, Passed, passOf, passesOf, Kept, kept, columnOf, qr, rankTolerance}
 use Rattle.model.specs.Svd.{valuesAt, identityAt, factored, place, orderOf, Svd, rawValue, anyNan, columnAt, valueAt, direction, turn, ordered, svd}
-use Rattle.model.specs.declared.Rotation.{Rotation}
 
 -- ---- a rotation (8.6.3): the two numbers of each row of columns p and q are turned, and no other number changes
 

@@ -12,13 +12,13 @@ use Rattle.complex.specs.Complex.{zeroF, oneF}
 use Rattle.complex.specs.declared.Complex.{Complex}
 use Rattle.gates.specs.Gate.{entry}
 use Rattle.model.specs.declared.Chain.{Chain}
+use Rattle.model.specs.declared.WeightSide.the-variants.{Right}
 use Rattle.model.specs.Chain.{siteOf}
 use Rattle.model.specs.Slots.{State, lefts, rights, siteAt}
 use Rattle.model.specs.Svd.{Svd, values, rawValue}
 use Rattle.model.specs.Truncation.{cutRank, rank, resolvable}
 use Rattle.model.specs.Pair.{pairSvd}
 use Rattle.model.specs.Moves.{established, Prepared, prepared, preparedOn}
-use Rattle.model.specs.declared.WeightSide.the-variants.{Right}
 use Rattle.model.specs.Cut.{known, canLose}
 use Rattle.model.specs.Routing.{Step, routeOf, stepsOf, stepped}
 use Rattle.model.specs.Laws.SoundFacts.{Settings, Sound}
@@ -101,6 +101,10 @@ preparedFor k s = cond (keepsCentre k s) (preparedOn k (s .chain .center) s) (pr
 abbrev pub pairOf : List (List Complex) → ℕ → State → Svd
 pairOf gate k s = pairSvd (s .chain .«norm_clamp_min») (lefts s k) (rights s k) (rights s (k + 1)) gate (siteAt s k) (siteAt s (k + 1))
 
+-- the number of values that the rule keeps
+abbrev pub rankOf : State → Svd → ℕ
+rankOf s d = rank (s .chain .«svd_epsilon») (s .chain .«max_bond_dim») (values d)
+
 abbrev pub SomeNan : Svd → Type 0
 SomeNan d = (j : ℕ) × (j < d .wide) × (rawValue d j ≡ nan)
 
@@ -108,8 +112,8 @@ SomeNan d = (j : ℕ) × (j < d .wide) × (rawValue d j ≡ nan)
 abbrev pub MadeAgain : List (List Complex) → ℕ → State → Type 0
 MadeAgain gate k s =
     let t = preparedFor k s .state in
-    let vs = values (pairOf gate k t) in
-    (keepsCentre k s ≡ false) × T (resolvable vs (rank (t .chain .«svd_epsilon») (t .chain .«max_bond_dim») vs))
+    let d = pairOf gate k t in
+    (keepsCentre k s ≡ false) × T (resolvable (values d) (rankOf t d))
 
 -- a NaN among the singular values of a cut, and of one made again
 abbrev pub FirstNan : List (List Complex) → ℕ → State → Type 0

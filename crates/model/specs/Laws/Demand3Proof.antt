@@ -1,25 +1,21 @@
 -- DEMAND 3, proved: the chain refuses as the machine does, an accepted call answers as the machine does and leaves the chain following it, and so does a list of calls from a fresh chain.
 use mathlib.Core.Path.{_≡_, refl, ap, sym, _∙_, subst}
-use mathlib.Core.Bool.{Bool, true, false, not, _&&_, _||_, Bool·beq, cond}
+use mathlib.Core.Bool.{Bool, true, false, not, _&&_, _||_, Bool·beq, Bool·not-not, cond}
 use mathlib.Core.Logic.{_≢_}
-use mathlib.Core.List.{List, [], _∷_, _++_, append-assoc}
+use mathlib.Core.List.{List, [], _∷_}
 use Prim.Native.Nat.{ℕ, zero, suc, _+_, _-_, _*_, _≤_, _<_}
-use native.Mathlib.Nat.{suc-mul}
 use native.Mathlib.Decide.{ℕ-discrete}
 use native.Mathlib.Omega.{arith}
 use lib.Dec.{T, ltb, leb, eqb, eqb·suc-zero, lit≤}
-use lib.ListN.{length, getD, take, drop, length-append, length-drop}
-use lib.Seq.{drop-at, take-at}
-use lib.Ieee.{Float, fits, lt, le, neg, ofBits}
+use lib.ListN.{length, getD}
+use lib.Ieee.{Float, lt, le, neg, ofBits}
 use lib.Ieee.Bits.{is-true}
 use lib.Ieee.Fits.{and-l, and-r}
 use lib.Ieee.Scale.{finite}
-use borrow.Author.Tests.{leb-false, eqb-false, ltb-false, le-ltb, lt-leb, not-false}
+use borrow.Author.Tests.{leb-false, le-ltb, lt-leb}
 use Rattle.complex.specs.Complex.{mulC, zeroF, oneF}
 use Rattle.complex.specs.Loops.{each, every}
-use Rattle.complex.specs.Parts.{part}
 use Rattle.complex.specs.Numbers.{at}
-use Rattle.complex.specs.Matrix.{rows}
 use Rattle.complex.specs.declared.Complex.{Complex}
 use Rattle.gates.specs.Gate.{entry, gateOf}
 use Rattle.gates.specs.Finite.{finiteC, allFinite}
@@ -32,39 +28,36 @@ use Rattle.model.specs.declared.Applied.the-variants as applied
 use Rattle.model.specs.declared.Projected.the-variants as projected
 use Rattle.model.specs.declared.Measured.the-variants as measured
 use Rattle.model.specs.Chain.{siteOf, qubitAt}
-use Rattle.model.specs.Slots.{State, held, slotRoom, storeRoom, workRoom, siteAt, filled}
+use Rattle.model.specs.Slots.{State, held, slotRoom, storeRoom, workRoom, siteAt}
 use Rattle.model.specs.Cut.{Ran}
 use Rattle.model.specs.Routing.{gateRun}
 use Rattle.model.specs.Born.{weightAt, drawnAt, projectedAt, resetAt, readied}
-use Rattle.model.specs.Sound.{share01, settingsFit, sound}
-use Rattle.model.specs.Laws.SoundFacts.{Settings, Sound, settings-facts, facts-sound}
-use Rattle.model.specs.Start.{freshChain, freshStore, zeroChain}
+use Rattle.model.specs.Sound.{share01, sound}
+use Rattle.model.specs.Start.{freshChain, freshStore}
 use Rattle.model.specs.Answers.{View, accepted, refused, none, weight, nothing, bit, viewAnswer, viewApplied, viewProjected, viewMeasured}
-use Rattle.model.specs.Calls.{After, after, firstOf, short, cleared, gateRefusal, projectRefusal, measureRefusal, resetRefusal, gateAfter, gateCall, namedGateCall, projectAnswer, projectRun, projectCall, flagged, measureRun, measureCall, resetRun, resetCall, Started, started, startCall}
+use Rattle.model.specs.Calls.{After, after, firstOf, short, cleared, gateRefusal, projectRefusal, measureRefusal, resetRefusal, gateAfter, gateCall, namedGateCall, projectAnswer, projectRun, projectCall, flagged, measureRun, measureCall, resetRun, resetCall, Started}
 use Rattle.model.specs.Lists.{Call, gate, named, project, measure, reset, left, answerOf, stateOf, answersOf, finalState}
 use Rattle.model.specs.Phases.{Phase, _⊗_, one}
 use Rattle.model.specs.Machine as machine
 use Rattle.model.specs.Machine.{Machine, tooShort, noNumber, noGate, noDraw, inTurn, refusal, reply, next, machineAnswer, machineNext, machineAnswers, machineAfter, fresh, monomial, allowed, allAllowed}
 use Rattle.model.specs.Statements.Demand3.{F64, F64s, AllF64, entryAt, product, Follows, Demand3}
+use Rattle.model.specs.Statements.Demand1Sound.{call-sound}
+use Rattle.model.specs.Laws.SoundFacts.{Settings, Sound, facts-sound}
+use Rattle.model.specs.Laws.Labels.{sound-maps}
+use Rattle.model.specs.Laws.Refusals.{two-qubits}
 use Rattle.model.specs.Laws.Units.{nought, unit, Is, Holds, Moves, Fraction, one-left, is-mul, is-equal, is-solid, zero-nought, one-unit}
-use Rattle.model.specs.Laws.Tracked.{Setup, setupOf, Fit, Tracked, slot-four, update, update-at, update-else, centeredOn-tracked, weight-tracked, drawn-tracked, answer-tracked, projected-tracked, reset-tracked}
-use Rattle.model.specs.Laws.Following.{Following, Maps, multiplied, label, moved-is, gate-done}
+use Rattle.model.specs.Laws.Tracked.{Setup, setupOf, Fit, Tracked, update, update-at, update-else, readied-tracked, weight-tracked, drawn-tracked, answer-tracked, projected-tracked, reset-tracked}
+use Rattle.model.specs.Laws.Following.{Following, multiplied, label, moved-is, gate-done}
 use Rattle.model.specs.Laws.UnitGates.{named-moves, monomial-moves}
 use Rattle.model.specs.Laws.UnitSites.{holds-filled}
-use Rattle.model.specs.Laws.MoveLaws.{length-filled}
-use Rattle.model.specs.Laws.SoundKept.{fresh-sound}
-use Rattle.model.specs.Statements.Demand1Sound.{call-sound}
+use Rattle.model.specs.Laws.StartLaws.{freshSlot, fresh-length, fresh-slot, fresh-sound, start-accepted}
+use Rattle.model.specs.Laws.Tests.{not-and, neither}
 
 -- ---- the refusal numbers of the chain, its record sound, are the machine's
 
 finite-number : (z : Complex) → finiteC z ≡ not (noNumber z)
 unfolding finiteC
-finite-number z = go (finite (z .re)) (finite (z .im))
-  where
-    go : (a b : Bool) → (a && b) ≡ not (not a || not b)
-    go true true = refl
-    go true false = refl
-    go false b = refl
+finite-number z = sym (Bool·not-not (finite (z .re) && finite (z .im))) ∙ ap not (not-and (finite (z .re)) (finite (z .im)))
 
 finite-gate : (g : List (List Complex)) → not (allFinite g) ≡ noGate g
 unfolding allFinite
@@ -77,11 +70,7 @@ named-finite Cx = refl
 named-finite Cz = refl
 
 proper-draw : (x : Float) → not (share01 x) ≡ noDraw x
-proper-draw x = go (le zeroF x) (lt x oneF)
-  where
-    go : (a b : Bool) → not (a && b) ≡ (not a || not b)
-    go true b = refl
-    go false b = refl
+proper-draw x = not-and (le zeroF x) (lt x oneF)
 
 module _ (S : Setup) (s : State) (same : setupOf s ≡ S) (h : T (sound (s .chain))) where
   refused-alike : (work : List Float) (out : ℕ → Bool) (improper improper′ : Bool) → improper ≡ improper′
@@ -122,17 +111,6 @@ none-refuses false true c e = absurd (omega arith)
 none-refuses false false true e = absurd (omega arith)
 none-refuses false false false e = (refl, refl)
 
-neither : (a b : Bool) → (a || b) ≡ false → (a ≡ false) × (b ≡ false)
-neither false false e = (refl, refl)
-neither false true e = (refl, e)
-neither true b e = (e, absurd (let z : _≡_ {A = ℕ} 0 1 = cc in omega arith))
-
-pub two-qubits : (n q0 q1 : ℕ) → (leb n q0 || leb n q1 || eqb q0 q1) ≡ false → (q0 < n) × (q1 < n) × (q0 ≢ q1)
-two-qubits n q0 q1 e =
-    let x = neither (leb n q0 || leb n q1) (eqb q0 q1) e in
-    let y = neither (leb n q0) (leb n q1) (x .0) in
-    (leb-false n q0 (y .0), leb-false n q1 (y .1), eqb-false q0 q1 (x .1))
-
 -- an allowed gate by matrix, if the machine does not refuse it, moves bits and phases
 pub allowed-moves : (n d long q0 q1 : ℕ) (g : List (List Complex)) (work : List Float) → F64s (gate q0 q1 g work) → T (allowed n d long (gate q0 q1 g work)) → refusal n d long (gate q0 q1 g work) ≡ 0 → Moves g
 allowed-moves n d long q0 q1 g work f a z = monomial-moves g (subst (λ (k : ℕ). T (not (eqb k 0) || monomial g)) z a) f
@@ -154,13 +132,13 @@ module _ (S : Setup) (D : Fit S) where
     k-is = ap (λ (x : List ℕ). getD x q 0) (t .tracked .sites-are)
 
     K : k < S .qubits
-    K = subst (λ (x : ℕ). x < S .qubits) (sym k-is) (t .maps .site-below q Q)
+    K = subst (λ (x : ℕ). x < S .qubits) (sym k-is) (t .maps .sites .below q Q)
 
     bit-is : t .bits k ≡ M .bits q
     bit-is = ap (t .bits) k-is ∙ sym (t .at-bits q Q)
 
     ready : Tracked S (t .sites) (t .qubits) (readied k s) (t .bits) (t .phases)
-    ready = centeredOn-tracked S D (t .sites) (t .qubits) (t .bits) (t .phases) k (s .chain .center) s K (t .tracked .within) (t .tracked)
+    ready = readied-tracked S D (t .sites) (t .qubits) (t .bits) (t .phases) k s K (t .tracked)
 
     pub weight-following : (o : Bool) → weightAt k o (readied k s) ≡ cond (Bool·beq (M .bits q) o) oneF zeroF
     weight-following o = weight-tracked S D (t .sites) (t .qubits) (t .bits) (t .phases) (readied k s) ready k K o ∙ ap (λ (b : Bool). cond (Bool·beq b o) oneF zeroF) bit-is
@@ -196,7 +174,7 @@ module _ (S : Setup) (D : Fit S) where
           lefts-one = u .lefts-one;
           rights-one = u .rights-one;
           holds = u .holds;
-          within = u .within;
+          centre = u .centre;
           high-one = u .high-one;
           none = u .none;
           sites-are = u .sites-are;
@@ -209,7 +187,7 @@ module _ (S : Setup) (D : Fit S) where
         ∙ sym (ap (update k false (t .bits)) (ap (label (t .sites)) e ∙ sym k-is) ∙ update-at k false (t .bits))
     lowered-at p P (no n) =
         update-else q false (M .bits) p n ∙ t .at-bits p P
-        ∙ sym (update-else k false (t .bits) (label (t .sites) p) (λ e. n (sym (t .maps .there p P) ∙ ap (label (t .qubits)) (e ∙ k-is) ∙ t .maps .there q Q)))
+        ∙ sym (update-else k false (t .bits) (label (t .sites) p) (λ e. n (sym (t .maps .sites .undone p P) ∙ ap (label (t .qubits)) (e ∙ k-is) ∙ t .maps .sites .undone q Q)))
 
     reset-following : (draw : Float) → Fraction draw → Following S (resetAt k (drawnAt k draw (readied k s)) (readied k s)) (record { bits = update q false (M .bits); phase = M .phase })
     reset-following draw f = record {
@@ -239,8 +217,8 @@ module _ (S : Setup) (D : Fit S) where
     Alike a i b j =
         (view ((cond a run (after (no i) s work)) .answer) ≡ cond b (reply c M) (refused j)) × Following S (left (cond a run (after (no i) s work))) (cond b (next c M) M)
 
-    either-way : (i : ℕ) → i ≡ numberOf c → Alike (eqb i 0) i (eqb (numberOf c) 0) (numberOf c)
-    either-way i e = subst (λ (x : ℕ). Alike (eqb x 0) x (eqb (numberOf c) 0) (numberOf c)) (sym e) (go (numberOf c) refl)
+    refused-or-run : (i : ℕ) → i ≡ numberOf c → Alike (eqb i 0) i (eqb (numberOf c) 0) (numberOf c)
+    refused-or-run i e = subst (λ (x : ℕ). Alike (eqb x 0) x (eqb (numberOf c) 0) (numberOf c)) (sym e) (go (numberOf c) refl)
       where
         go : (j : ℕ) → numberOf c ≡ j → Alike (eqb j 0) j (eqb j 0) j
         go zero z = done z
@@ -248,9 +226,9 @@ module _ (S : Setup) (D : Fit S) where
 
   module _ (s : State) (M : Machine) (t : Following S s M) (h : T (sound (s .chain))) where
     -- an accepted gate
-    gate-accepted : (q0 q1 : ℕ) (g : List (List Complex)) → Moves g → (q0 < S .qubits) × (q1 < S .qubits) × (q0 ≢ q1) → (work : List Float)
+    gate-runs : (q0 q1 : ℕ) (g : List (List Complex)) → Moves g → (q0 < S .qubits) × (q1 < S .qubits) × (q0 ≢ q1) → (work : List Float)
         → (viewApplied (gateAfter (gateRun g q0 q1 s) work .answer) ≡ accepted none) × Following S (left (gateAfter (gateRun g q0 q1 s) work)) (machine.moved g q0 q1 M)
-    gate-accepted q0 q1 g G x work =
+    gate-runs q0 q1 g G x work =
         let c = gate-done S D g G q0 q1 s M (x .0) (x .1) (x .2) t in (
           ap (λ (r : Ran). viewApplied (gateAfter r work .answer)) (c .1),
           subst (λ (r : Ran). Following S (left (gateAfter r work)) (machine.moved g q0 q1 M)) (sym (c .1)) (subst (λ (N : Machine). Following S (c .0) N) (sym (moved-is g G q0 q1 M)) (c .2)),
@@ -260,20 +238,20 @@ module _ (S : Setup) (D : Fit S) where
     gate-follows : (q0 q1 : ℕ) (g : List (List Complex)) (work : List Float) → (numberOf (gate q0 q1 g work) ≡ 0 → Moves g) → CallFollows (gate q0 q1 g work) s M
     unfolding gateCall reply next refusal
     gate-follows q0 q1 g work G =
-        either-way viewApplied applied.Refused (λ k. refl) (gate q0 q1 g work) s M t work (gateAfter (gateRun g q0 q1 s) (cleared (s .chain) work))
-        (λ z. gate-accepted q0 q1 g (G z) (two-qubits (S .qubits) q0 q1 (none-refuses (tooShort (S .qubits) (S .cap) (S .long) (length work)) _ (noGate g) z .0)) (cleared (s .chain) work))
+        refused-or-run viewApplied applied.Refused (λ k. refl) (gate q0 q1 g work) s M t work (gateAfter (gateRun g q0 q1 s) (cleared (s .chain) work))
+        (λ z. gate-runs q0 q1 g (G z) (two-qubits (S .qubits) q0 q1 (none-refuses (tooShort (S .qubits) (S .cap) (S .long) (length work)) _ (noGate g) z .0)) (cleared (s .chain) work))
         (gateRefusal s work q0 q1 g) (gate-refusal S s (t .tracked .same) h q0 q1 g work)
 
     call-follows : (c : Call) → F64s c → T (allowed (S .qubits) (S .cap) (S .long) c) → CallFollows c s M
     unfolding namedGateCall gateCall projectCall measureCall resetCall reply next refusal
     call-follows (gate q0 q1 g work) f a = gate-follows q0 q1 g work (allowed-moves (S .qubits) (S .cap) (S .long) q0 q1 g work f a)
     call-follows (named q0 q1 name work) f a =
-        either-way viewApplied applied.Refused (λ k. refl) (named q0 q1 name work) s M t work (gateAfter (gateRun (matrixOf name) q0 q1 s) (cleared (s .chain) work))
-        (λ z. gate-accepted q0 q1 (matrixOf name) (named-moves name)
+        refused-or-run viewApplied applied.Refused (λ k. refl) (named q0 q1 name work) s M t work (gateAfter (gateRun (matrixOf name) q0 q1 s) (cleared (s .chain) work))
+        (λ z. gate-runs q0 q1 (matrixOf name) (named-moves name)
         (two-qubits (S .qubits) q0 q1 (none-refuses (tooShort (S .qubits) (S .cap) (S .long) (length work)) _ false z .0)) (cleared (s .chain) work))
         (gateRefusal s work q0 q1 (matrixOf name)) (named-refusal S s (t .tracked .same) h q0 q1 name work)
     call-follows (project q o work) f a =
-        either-way viewProjected projected.Refused (λ k. refl) (project q o work) s M t work (projectRun (siteOf (s .chain) q) o s (cleared (s .chain) work))
+        refused-or-run viewProjected projected.Refused (λ k. refl) (project q o work) s M t work (projectRun (siteOf (s .chain) q) o s (cleared (s .chain) work))
         (λ z. let Q = leb-false (S .qubits) q (none-refuses (tooShort (S .qubits) (S .cap) (S .long) (length work)) _ false z .0) in
         (ap viewProjected (answer-following s M t q Q o) ∙ kept-view (Bool·beq (M .bits q) o), project-following s M t q Q o))
         (projectRefusal s work q) (project-refusal S s (t .tracked .same) h q o work)
@@ -282,13 +260,13 @@ module _ (S : Setup) (D : Fit S) where
         kept-view true = refl
         kept-view false = refl
     call-follows (measure q flag draw work) f a =
-        either-way viewMeasured measured.Refused (λ k. refl) (measure q flag draw work) s M t work (measureRun (siteOf (s .chain) q) flag draw s (cleared (s .chain) work))
+        refused-or-run viewMeasured measured.Refused (λ k. refl) (measure q flag draw work) s M t work (measureRun (siteOf (s .chain) q) flag draw s (cleared (s .chain) work))
         (λ z. let x = none-refuses (tooShort (S .qubits) (S .cap) (S .long) (length work)) (leb (S .qubits) q || ltb 63 flag) (noDraw draw) z in
         let Q = leb-false (S .qubits) q (neither (leb (S .qubits) q) (ltb 63 flag) (x .0) .0) in
         (ap (λ (b : Bool). accepted (bit b)) (drawn-at s M t q Q draw (fraction draw f (x .1)) ∙ bit-is s M t q Q), flag-following s M t q Q flag _ _))
         (measureRefusal s work q flag draw) (measure-refusal S s (t .tracked .same) h q flag draw work)
     call-follows (reset q draw work) f a =
-        either-way viewAnswer answer.Refused (λ k. refl) (reset q draw work) s M t work (resetRun (siteOf (s .chain) q) draw s (cleared (s .chain) work))
+        refused-or-run viewAnswer answer.Refused (λ k. refl) (reset q draw work) s M t work (resetRun (siteOf (s .chain) q) draw s (cleared (s .chain) work))
         (λ z. let x = none-refuses (tooShort (S .qubits) (S .cap) (S .long) (length work)) (leb (S .qubits) q) (noDraw draw) z in
         let Q = leb-false (S .qubits) q (x .0) in
         (refl, reset-following s M t q Q draw (fraction draw f (x .1))))
@@ -333,8 +311,8 @@ module _ (S : Setup) (D : Fit S) where
     qubit-bit : (k : ℕ) → k < S .qubits → M .bits (qubitAt (s .chain) k) ≡ t .bits k
     qubit-bit k l =
         ap (λ (B : List ℕ). M .bits (getD B k 0)) (t .tracked .qubits-are)
-        ∙ t .at-bits (getD (t .qubits) k 0) (t .maps .qubit-below k l)
-        ∙ ap (t .bits) (t .maps .back k l)
+        ∙ t .at-bits (getD (t .qubits) k 0) (t .maps .qubits .below k l)
+        ∙ ap (t .bits) (t .maps .qubits .undone k l)
 
     own-is : (k : ℕ) → k < S .qubits → Is (entryAt s k (M .bits (qubitAt (s .chain) k))) (unit (t .phases k))
     own-is k l = subst (λ (x : Bool). Is (entryAt s k x) (unit (t .phases k))) (sym (qubit-bit k l)) (go (t .bits k) (t .tracked .holds k l))
@@ -402,42 +380,10 @@ module _ (S : Setup) (D : Fit S) where
 
 -- ---- the start
 
-length-rows-of : (w : ℕ) (f : ℕ → List Float) → ((k : ℕ) → length (f k) ≡ w) → (n : ℕ) → length (rows n f) ≡ n * w
-unfolding rows
-length-rows-of w f len zero = omega arith
-length-rows-of w f len (suc n) = length-append (rows n f) (f n) ∙ omega (arith, length-rows-of w f len n, len n, suc-mul n w)
-
--- row k of rows that are w long
-part-rows : (w : ℕ) (f : ℕ → List Float) → ((k : ℕ) → length (f k) ≡ w) → (n : ℕ) (rest : List Float) (k : ℕ) → k < n → part (k * w) (k * w + w) (rows n f ++ rest) ≡ f k
-unfolding rows
-part-rows w f len zero rest k h = absurd (omega arith)
-part-rows w f len (suc n) rest k h = ap (part (k * w) (k * w + w)) (append-assoc (rows n f) (f n) rest) ∙ go (ℕ-discrete k n) (part-rows w f len n (f n ++ rest) k)
-  where
-    go : Dec (k ≡ n) → (k < n → part (k * w) (k * w + w) (rows n f ++ (f n ++ rest)) ≡ f k) → part (k * w) (k * w + w) (rows n f ++ (f n ++ rest)) ≡ f k
-    go (yes e) r =
-        ap (λ (j : ℕ). part (j * w) (j * w + w) (rows n f ++ (f n ++ rest))) e
-        ∙ ap (take (n * w + w - n * w)) (drop-at (rows n f) (f n ++ rest) (n * w) (length-rows-of w f len n))
-        ∙ take-at (f n) rest (n * w + w - n * w) (len n ∙ omega arith)
-        ∙ ap f (sym e)
-    go (no m) r = r (omega arith)
-
 fresh-holds : Holds (oneF ∷ zeroF ∷ zeroF ∷ zeroF ∷ []) false one
 unfolding at
 fresh-holds false = one-unit
 fresh-holds true = zero-nought
-
--- the label maps of a sound record
-sound-maps : (c : Chain) → Sound c → Maps (c .«num_qubits») (c .«logical_to_site») (c .«site_to_logical»)
-sound-maps c h =
-    let most : c .«num_qubits» ≤ 64 = h .settings .qubits .1 in
-    record {
-      long-a = omega (arith, h .sizes .sites);
-      long-b = omega (arith, h .sizes .qubits);
-      site-below = h .sites .below;
-      qubit-below = h .qubits .below;
-      there = h .sites .undone;
-      back = h .qubits .undone;
-    }
 
 module _ (n d exponent : ℕ) (epsilon clamp : Float) (store : List Float) (E : F64 epsilon) (C : F64 clamp) (two : 2 ≤ n) (five : 5 ≤ exponent)
     (Z : Settings n d epsilon clamp exponent) (room : storeRoom n d ≤ length store) where
@@ -460,19 +406,8 @@ module _ (n d exponent : ℕ) (epsilon clamp : Float) (store : List Float) (E : 
   chain-sound : Sound chain
   chain-sound = fresh-sound n d epsilon clamp exponent Z
 
-  -- each slot holds 1 at bit 0
-  abbrev slot : List Float
-  slot = filled (slotRoom d) (oneF ∷ zeroF ∷ zeroF ∷ zeroF ∷ [])
-
-  slot-holds : Holds slot false one
+  slot-holds : Holds (freshSlot d) false one
   slot-holds = holds-filled (slotRoom d) (oneF ∷ zeroF ∷ zeroF ∷ zeroF ∷ []) false one (lit≤ tt) fresh-holds
-
-  slot-long : (k : ℕ) → length slot ≡ slotRoom d
-  slot-long k = length-filled (slotRoom d) (oneF ∷ zeroF ∷ zeroF ∷ zeroF ∷ []) (slot-four d (Z .cap .0))
-
-  store-long : length (freshStore n d store) ≡ length store
-  unfolding freshStore
-  store-long = length-append (rows n (λ k. slot)) (drop (storeRoom n d) store) ∙ omega (arith, length-rows-of (slotRoom d) (λ k. slot) slot-long n, length-drop (storeRoom n d) store)
 
   all-one : (m : ℕ) → multiplied m (λ k. one) ≡ one
   all-one zero = refl
@@ -486,11 +421,11 @@ module _ (n d exponent : ℕ) (epsilon clamp : Float) (store : List Float) (E : 
     bits = λ k. false;
     phases = λ k. one;
     tracked = record {
-      same = λ i. record { qubits = n; cap = d; exponent = exponent; epsilon = epsilon; clamp = clamp; long = store-long i };
+      same = λ i. record { qubits = n; cap = d; exponent = exponent; epsilon = epsilon; clamp = clamp; long = fresh-length n d store (Z .cap .0) room i };
       lefts-one = λ k l. let r = chain-sound .bonds .left-range k l in omega arith;
       rights-one = λ k l. let r = chain-sound .bonds .right-range k l in omega arith;
-      holds = λ k l. subst (λ (x : List Float). Holds x false one) (sym (part-rows (slotRoom d) (λ k. slot) slot-long n (drop (storeRoom n d) store) k l)) slot-holds;
-      within = tt;
+      holds = λ k l. subst (λ (x : List Float). Holds x false one) (sym (fresh-slot n d store (Z .cap .0) k l)) slot-holds;
+      centre = chain-sound .centre;
       high-one = refl;
       none = refl;
       sites-are = refl;
@@ -506,35 +441,10 @@ module _ (n d exponent : ℕ) (epsilon clamp : Float) (store : List Float) (E : 
 
 -- ---- the theorem
 
--- an answer that is Done says that neither test refused
-unrefused : (a b : Bool) (c c′ c″ : Chain) (x x′ x″ : List Float) → (cond a (started (answer.Refused 1) c x) (cond b (started (answer.Refused 2) c′ x′) (started answer.Done c″ x″))) .answer ≡ answer.Done
-    → (a ≡ false) × (b ≡ false)
-unrefused false false c c′ c″ x x′ x″ e = (refl, refl)
-unrefused false true c c′ c″ x x′ x″ e = absurd (let z : _≡_ {A = ℕ} 0 1 = cc in omega arith)
-unrefused true b c c′ c″ x x′ x″ e = absurd (let z : _≡_ {A = ℕ} 0 1 = cc in omega arith)
-
--- an accepted start: its settings, its room, and what it leaves
-pub record Accepted (n d exponent : ℕ) (epsilon clamp : Float) (store : List Float) : Type 0 where
-  pub settings : Settings n d epsilon clamp exponent
-  pub room : storeRoom n d ≤ length store
-  pub is : startCall n d epsilon clamp exponent store ≡ started answer.Done (freshChain n d epsilon clamp exponent) (freshStore n d store)
-
-pub start-accepted : (n d exponent : ℕ) (epsilon clamp : Float) (store : List Float) → startCall n d epsilon clamp exponent store .answer ≡ answer.Done → Accepted n d exponent epsilon clamp store
-unfolding startCall
-start-accepted n d exponent epsilon clamp store e =
-    let fits = settingsFit n d epsilon clamp exponent in
-    let f = freshChain n d epsilon clamp exponent in
-    let x = unrefused (not fits) (ltb (length store) (storeRoom n d)) zeroChain zeroChain f store store (freshStore n d store) e in
-    record {
-      settings = settings-facts n d epsilon clamp exponent (subst (λ (b : Bool). T b) (sym (not-false fits (x .0))) tt);
-      room = ltb-false (length store) (storeRoom n d) (x .1);
-      is = λ i. cond (x .0 i) (started (answer.Refused 1) zeroChain store) (cond (x .1 i) (started (answer.Refused 2) zeroChain store) (started answer.Done f (freshStore n d store)));
-    }
-
 pub demand3 : Demand3
 unfolding Demand3
 demand3 n d exponent epsilon clamp store E C two five done calls f a =
-    let x = start-accepted n d exponent epsilon clamp store done in
+    let x = start-accepted n d epsilon clamp exponent store done in
     let S = setup n d exponent epsilon clamp store E C two five (x .settings) (x .room) in
     let D = fit n d exponent epsilon clamp store E C two five (x .settings) (x .room) in
     let b = start-between n d exponent epsilon clamp store E C two five (x .settings) (x .room) in

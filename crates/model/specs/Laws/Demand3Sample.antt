@@ -23,8 +23,8 @@ use Rattle.model.specs.Lists.{Call, gate, named, project, measure, reset
 use Rattle.model.specs.Phases.{phase, equals, isPhase, readPhase}
 use Rattle.model.specs.Machine.{Machine, fresh, refusal, nonzeroRow, moved, reply, next, monomial, machineAnswers, machineAfter, allAllowed}
 use Rattle.model.specs.Statements.Demand3.{F64, AllF64, Follows, Demand3, matrixProduct, by-matrix, by-name, ProductClause}
-use Rattle.model.specs.Laws.ListUnit.{demand3}
-use Rattle.model.specs.Laws.Product.{product-clause}
+use Rattle.model.specs.Laws.Demand3Proof.{demand3}
+use Rattle.model.specs.Laws.Demand3Product.{product-clause}
 
 -- 2 ^ -40, for epsilon, clamp and draws
 abbrev small : Float

@@ -27,7 +27,9 @@ use Rattle.model.specs.Laws.UnitCut.{moved-value, summed-is}
 use Rattle.model.specs.Laws.UnitGates.{num-below, named-moves}
 use Rattle.model.specs.Laws.Tracked.{Setup, Fit, update, update-at, update-else}
 use Rattle.model.specs.Laws.Following.{movedBy, moved-is}
-use Rattle.model.specs.Laws.ListUnit.{none-refuses, two-qubits, allowed-moves, Between, gate-between, call-between, list-between, follows, setup, fit, start-between, start-accepted}
+use Rattle.model.specs.Laws.Refusals.{two-qubits}
+use Rattle.model.specs.Laws.Demand3Proof.{none-refuses, allowed-moves, Between, gate-between, call-between, list-between, follows, setup, fit, start-between}
+use Rattle.model.specs.Laws.StartLaws.{start-accepted}
 
 -- ---- the product of two gates, the later one h on the left
 
@@ -200,7 +202,7 @@ module _ (S : Setup) (D : Fit S) (q0 q1 : ℕ) (c1 c2 : Call) (m1 m2 : List (Lis
 pub product-clause : ProductClause
 unfolding ProductClause
 product-clause n d exponent epsilon clamp store E C two five done q0 q1 c1 c2 m1 m2 k1 k2 before rest f a work =
-    let x = start-accepted n d exponent epsilon clamp store done in
+    let x = start-accepted n d epsilon clamp exponent store done in
     let S = setup n d exponent epsilon clamp store E C two five (x .settings) (x .room) in
     let D = fit n d exponent epsilon clamp store E C two five (x .settings) (x .room) in
     let c12 = gate q0 q1 (matrixProduct m2 m1) work in
