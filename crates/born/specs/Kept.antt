@@ -17,7 +17,7 @@ use Rattle.complex.specs.Numbers.{at, store, numbers, length-store, at-store-sa
 use Rattle.complex.specs.Parts.{part, put}
 use Rattle.complex.specs.Matrix.{rows, length-rows, at-rows, rows-same, block-none, length-blocks, block-more}
 use Rattle.complex.specs.declared.Complex.{Complex}
-use Rattle.model.specs.Laws.SoundFacts.{below-or-past}
+use Rattle.model.specs.Laws.Tests.{below-or-past}
 use Rattle.model.specs.Slots.{filled, amplitude}
 use Rattle.model.specs.Born.{bitOf, weight, rescale, projectedSite, resetSite}
 

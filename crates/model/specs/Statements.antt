@@ -1,4 +1,5 @@
 -- What is proved of the definitions, each file short enough to be read in minutes. The proofs stand in `Laws`.
+pub mod Soundness
 pub mod Table
 pub mod Demand1
 pub mod Demand1Sound

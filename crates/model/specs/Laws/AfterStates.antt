@@ -33,7 +33,7 @@ use Rattle.model.specs.Sound.{share01, sound}
 use Rattle.model.specs.Calls.{After, after, firstOf, short, outside, cleared, flagged, gateRefusal, appliedOf, gateCall, namedGateCall, projectRefusal, projectAnswer, projectCall, measureRefusal, measureCall, resetRefusal, resetCall}
 use Rattle.model.specs.Statements.Table.{gateSteps}
 use Rattle.model.specs.Statements.Demand1.{Early, Late, lowest, highest, WorkLeft, StoreLeft, Leaves}
-use Rattle.model.specs.Laws.SoundFacts.{Sound}
+use Rattle.model.specs.Statements.Soundness.{Sound}
 use Rattle.model.specs.Laws.MoveLaws.{Apart, apart-at, apart-then}
 use Rattle.model.specs.Laws.RunLaws.{Room, Reach, Within, within-room, readied-within, route-spans, Unmoved, runSteps-within, runSteps-unmoved, projectedAt-apart, resetAt-apart}
 use Rattle.model.specs.Laws.Labels.{sound-maps, sites-apart}

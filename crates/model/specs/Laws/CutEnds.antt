@@ -20,7 +20,7 @@ use Rattle.model.specs.Cut.{known, Tried, tried, Ran, ran, concluded, cu
 use Rattle.model.specs.Routing.{Step, follow, stepped, runSteps}
 use Rattle.model.specs.Statements.Table.{AboveWorkspace, keepsCentre, preparedFor, pairOf, rankOf, SomeNan, MadeAgain, FirstNan, SecondNan}
 use Rattle.model.specs.Statements.Demand1Cuts.{madeIn}
-use Rattle.model.specs.Laws.SoundFacts.{Sound}
+use Rattle.model.specs.Statements.Soundness.{Sound}
 use Rattle.model.specs.Laws.MoveLaws.{lastSite, Narrowed, narrowed-none, narrowed-then, established-centre, established-narrowed}
 use Rattle.model.specs.Laws.SoundKept.{relabelledBy, prepared-narrowed}
 use Rattle.model.specs.Laws.Tests.{Decides, decides-below, decides-nans, either-way}

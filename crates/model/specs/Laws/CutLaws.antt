@@ -22,7 +22,7 @@ use Rattle.model.specs.Cut.{Ran, adjacent}
 use Rattle.model.specs.Pair.{theta, gated, gatedTheta, matrixOf, adjointOf, pairSvd, isometrySite, scaledSite, vtSite, scaledVtSite}
 use Rattle.model.specs.Statements.Table.{preparedFor, rankOf}
 use Rattle.model.specs.Statements.Demand1Cuts.{madeIn, cutSvd}
-use Rattle.model.specs.Laws.SoundFacts.{Sound}
+use Rattle.model.specs.Statements.Soundness.{Sound}
 use Rattle.model.specs.Laws.CutEnds.{cutAt, CutEnds, above, first-nan, second-nan, stored, adjacent-ends, made-narrowed}
 
 -- ---- formulas

@@ -25,7 +25,7 @@ use Rattle.model.specs.Calls.{After, after, gateAfter, cleared, gateRefu
 use Rattle.model.specs.Lists.{gate, named, project, measure, reset, left, stateOf}
 use Rattle.model.specs.Statements.Table.{gateSteps}
 use Rattle.model.specs.Statements.Demand1Cuts.{cutSvd, cutShare, madeIn, sharesOf, gateShares, callShares, listShares, discarded, WeightOfCall, WeightOfList, labelsOf}
-use Rattle.model.specs.Laws.SoundFacts.{Sound}
+use Rattle.model.specs.Statements.Soundness.{Sound}
 use Rattle.model.specs.Laws.Refusals.{AcceptedReading, project-passes, measure-passes, reset-passes}
 use Rattle.model.specs.Laws.SoundKept.{gate-accepted, Inside, stepped-keeps, readied-narrowed, projectedAt-chain, resetAt-chain, relabelledBy}
 use Rattle.model.specs.Laws.CutEnds.{cutAt, CutEnds, above, first-nan, second-nan, stored, adjacent-ends, made-narrowed, refused-narrowed}

@@ -42,7 +42,8 @@ use Rattle.model.specs.Machine as machine
 use Rattle.model.specs.Machine.{Machine, tooShort, noNumber, noGate, noDraw, inTurn, refusal, reply, next, machineAnswer, machineNext, machineAnswers, machineAfter, fresh, monomial, allowed, allAllowed}
 use Rattle.model.specs.Statements.Demand3.{F64, F64s, AllF64, entryAt, product, Follows, Demand3}
 use Rattle.model.specs.Statements.Demand1Sound.{call-sound}
-use Rattle.model.specs.Laws.SoundFacts.{Settings, Sound, facts-sound}
+use Rattle.model.specs.Statements.Soundness.{Settings, Sound}
+use Rattle.model.specs.Laws.SoundFacts.{facts-sound}
 use Rattle.model.specs.Laws.Labels.{sound-maps}
 use Rattle.model.specs.Laws.Refusals.{two-qubits}
 use Rattle.model.specs.Laws.Units.{nought, unit, Is, Holds, Moves, Fraction, one-left, is-mul, is-equal, is-solid, zero-nought, one-unit}

@@ -22,7 +22,8 @@ use Rattle.model.specs.Sound.{sound}
 use Rattle.model.specs.Answers.{viewContracted}
 use Rattle.model.specs.Calls.{Walked, short, outside, envRoom, envRefusal, envAfter, leftEnvironmentCall, rightEnvironmentCall}
 use Rattle.model.specs.Statements.Demand1.{Early, EnvironmentLeaves}
-use Rattle.model.specs.Laws.SoundFacts.{Sound, left-most, right-most}
+use Rattle.model.specs.Statements.Soundness.{Sound}
+use Rattle.model.specs.Laws.SoundFacts.{left-most, right-most}
 use Rattle.model.specs.Laws.AfterStates.{work-kept, work-cleared, not-short}
 use Rattle.model.specs.Laws.Refusals.{above-zero, early-late, passes-sound, firstOf-least, firstOf-none, not-outside}
 use Rattle.model.specs.Laws.Tests.{by-test, neither}

@@ -29,7 +29,7 @@ use Rattle.model.specs.Statements.Demand1Cuts.{labelsOf, StandsBySix, St
 use Rattle.model.specs.Laws.SoundKept.{Inside, stepped-keeps, accepted-gate, gate-accepted}
 use Rattle.model.specs.Laws.Refusals.{decides-unsound, decides-short, decides-gate, applied-number, first-of, number-picked, run-late, firstOf-least}
 use Rattle.model.specs.Laws.CutEnds.{CutEnds, above, first-nan, second-nan, stored, adjacent-ends, stepped-number, refused-narrowed, stepped-refused, run-on}
-use Rattle.model.specs.Laws.SoundFacts.{Sound}
+use Rattle.model.specs.Statements.Soundness.{Sound}
 use Rattle.model.specs.Laws.MoveLaws.{AsBefore}
 use Rattle.model.specs.Laws.CutShares.{run-discarded, project-reads, measure-reads, reset-reads}
 use Rattle.model.specs.Laws.RouteLabels.{run-labels, gate-labels}

@@ -11,7 +11,7 @@ use lib.ListN.{length, getD, set, length-set}
 use lib.Seq.{getD-set-same, getD-set-other}
 use Rattle.model.specs.declared.Chain.{Chain}
 use Rattle.model.specs.Statements.Demand1Cuts.{Labels, labelsOf, exchanged}
-use Rattle.model.specs.Laws.SoundFacts.{Undone, Sound}
+use Rattle.model.specs.Statements.Soundness.{Undone, Sound}
 
 -- ---- k and k + 1 exchanged
 

@@ -23,7 +23,8 @@ use Rattle.model.specs.Pair.{isometrySite, vtSite}
 use Rattle.model.specs.Moves.{rightMatrix, leftMatrix, absorbedRight, absorbedLeft, stepRight, stepLeft, walkRight, walkLeft, moved, established, centeredOn, Prepared, preparedOn}
 use Rattle.model.specs.Born.{readied}
 use Rattle.model.specs.Statements.Table.{keepsCentre, preparedFor}
-use Rattle.model.specs.Laws.SoundFacts.{Sound, left-most, right-most}
+use Rattle.model.specs.Statements.Soundness.{Sound}
+use Rattle.model.specs.Laws.SoundFacts.{left-most, right-most}
 use Rattle.model.specs.Laws.SoundChanges.{after-set, center-sound, bond-sound, qr-rank-least, qr-rank-most}
 use Rattle.model.specs.Laws.Tests.{either-way}
 

@@ -30,7 +30,8 @@ use Rattle.model.specs.Start.{freshChain, freshStore, zeroChain}
 use Rattle.model.specs.Calls.{After, appliedOf, firstOf, short, outside, cleared, started, startCall, projectRefusal, projectAnswer, projectRun, projectCall, measureRefusal, measureRun, measureCall, resetRefusal, resetRun, resetCall, Walked, envRefusal, envRun, envAfter, leftEnvironmentCall, rightEnvironmentCall}
 use Rattle.model.specs.Statements.Demand1.{Early, Late}
 use Rattle.model.specs.Statements.Table.{Row, _when_, FirstGround, OutOfRange, ShortStore, ShortSlice, Unsound, NoQubit, NotFinite, NoGate, NoDraw, startTable, projectTable, measureTable, resetTable, environmentTable}
-use Rattle.model.specs.Laws.SoundFacts.{Sound, settings-facts, facts-settings, sound-facts, facts-sound}
+use Rattle.model.specs.Statements.Soundness.{Sound}
+use Rattle.model.specs.Laws.SoundFacts.{settings-facts, facts-settings, sound-facts, facts-sound}
 use Rattle.model.specs.Laws.Tests.{not-and, Decides, by-test, decides-as, decides-below, decides-both, decides-either, decides-least, decides-not, decides-self, decides-some, neither}
 
 -- ---- the first of the rows

@@ -19,7 +19,7 @@ use Rattle.model.specs.Cut.{Ran, ran, adjacent}
 use Rattle.model.specs.Routing.{relabelled, Route, downTo, routeOf, Step, swapStep, gateStep, stepsOf, follow, stepped, runSteps}
 use Rattle.model.specs.Statements.Table.{gateSteps}
 use Rattle.model.specs.Statements.Demand1Cuts.{madeIn, Labels, labelsOf, exchanged, exchangedAll, swapsOf, siteAfter, siteBefore, labelsAfter}
-use Rattle.model.specs.Laws.SoundFacts.{Sound}
+use Rattle.model.specs.Statements.Soundness.{Sound}
 use Rattle.model.specs.Laws.Labels.{turn, turn-first, turn-second, turn-else, three, Maps, sound-maps, sites-apart, exchanged-qubit, exchanged-site, exchanged-past, exchanged-maps}
 use Rattle.model.specs.Laws.SoundKept.{Inside, stepped-keeps, gate-inside, relabelledBy}
 use Rattle.model.specs.Laws.CutEnds.{cutAt, CutEnds, above, first-nan, second-nan, stored, adjacent-ends, made-narrowed}

@@ -26,7 +26,8 @@ use Rattle.model.specs.Born.{weightAt, projectedSite, resetSite, project
 use Rattle.model.specs.Routing.{Step, downTo, routeOf, swapStep, stepsOf, stepped, runSteps}
 use Rattle.model.specs.Statements.Table.{keepsCentre, preparedFor, pairOf, rankOf}
 use Rattle.model.specs.Statements.Demand1Cuts.{madeIn}
-use Rattle.model.specs.Laws.SoundFacts.{Sound, left-most, right-most}
+use Rattle.model.specs.Statements.Soundness.{Sound}
+use Rattle.model.specs.Laws.SoundFacts.{left-most, right-most}
 use Rattle.model.specs.Laws.SoundChanges.{cut-rank-most}
 use Rattle.model.specs.Laws.MoveLaws.{readied-by, prepared-by, apart-at, Apart, apart-none, apart-then, site-apart, pair-apart, rows-fit, wide-rows-fit, moved-narrowed, moved-apart, moved-centre, established-narrowed, established-apart, established-centre}
 use Rattle.model.specs.Laws.SoundKept.{Keeps, keeps-none, keeps-then, narrowed-keeps, relabelledBy, adjacent-keeps, stepped-keeps, Inside}

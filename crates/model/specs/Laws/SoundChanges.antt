@@ -21,7 +21,7 @@ use Rattle.model.specs.Routing.{relabelled}
 use Rattle.model.specs.Qr.{Passed, Kept, keptOf, columnOf, raised, qr, rankTolerance}
 use Rattle.model.specs.Truncation.{rank}
 use Rattle.model.specs.Statements.Demand1Cuts.{labelsOf}
-use Rattle.model.specs.Laws.SoundFacts.{Bonds, Sound}
+use Rattle.model.specs.Statements.Soundness.{Bonds, Sound}
 use Rattle.model.specs.Laws.Labels.{sound-maps, exchanged-maps}
 use Rattle.model.specs.Laws.Tests.{either-way, by-test}
 

@@ -30,7 +30,7 @@ use Rattle.model.specs.Calls.{After, short, outside, flagged, gateRefusa
 use Rattle.model.specs.Statements.Table.{rankOf, keepsCentre, preparedFor, gateSteps}
 use Rattle.model.specs.Laws.Labels.{sound-maps, sites-apart}
 use Rattle.model.specs.Laws.Refusals.{project-passes, measure-passes, reset-passes, passes-sound, Passes, firstOf-none, two-qubits}
-use Rattle.model.specs.Laws.SoundFacts.{Sound}
+use Rattle.model.specs.Statements.Soundness.{Sound}
 use Rattle.model.specs.Laws.SoundChanges.{center-sound, bits-sound, truncation-sound, bond-sound, relabelled-sound, cut-rank-least, cut-rank-most}
 use Rattle.model.specs.Laws.MoveLaws.{lastSite, Narrowed, narrowed-none, narrowed-then, moved-narrowed, established-narrowed, readied-by, prepared-by}
 use Rattle.model.specs.Laws.Tests.{by-test, either-way}

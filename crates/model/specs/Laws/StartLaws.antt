@@ -23,7 +23,8 @@ use Rattle.model.specs.Start.{upTo, freshChain, freshStore, zeroChain}
 use Rattle.model.specs.Answers.{viewAnswer}
 use Rattle.model.specs.Calls.{started, startCall}
 use Rattle.model.specs.Statements.Demand1.{StartLeaves}
-use Rattle.model.specs.Laws.SoundFacts.{Settings, Undone, Sound, settings-facts}
+use Rattle.model.specs.Statements.Soundness.{Settings, Undone, Sound}
+use Rattle.model.specs.Laws.SoundFacts.{settings-facts}
 use Rattle.model.specs.Laws.MoveLaws.{length-filled, slot-four}
 use Rattle.model.specs.Laws.Tests.{below-or-past}
 

@@ -19,7 +19,8 @@ use Rattle.model.specs.Cut.{attempt, adjacent}
 use Rattle.model.specs.Sound.{sound}
 use Rattle.model.specs.Calls.{startCall}
 use Rattle.model.specs.Lists.{Call, gate, named, project, measure, reset, stateOf, finalState}
-use Rattle.model.specs.Laws.SoundFacts.{Sound, sound-facts, facts-sound}
+use Rattle.model.specs.Statements.Soundness.{Sound}
+use Rattle.model.specs.Laws.SoundFacts.{sound-facts, facts-sound}
 use Rattle.model.specs.Laws.SoundKept.{Keeps, keeps-none, keeps-then, gateCall-keeps, namedGateCall-keeps, projectCall-keeps, measureCall-keeps, resetCall-keeps}
 use Rattle.model.specs.Laws.StartLaws.{start-sound}
 use Rattle.model.specs.Laws.CutEnds.{second-not-6, untouched-by-6}

@@ -21,7 +21,7 @@ use Rattle.model.specs.Pair.{pairSvd}
 use Rattle.model.specs.Moves.{established, Prepared, prepared, preparedOn}
 use Rattle.model.specs.Cut.{known, canLose}
 use Rattle.model.specs.Routing.{Step, routeOf, stepsOf, stepped}
-use Rattle.model.specs.Laws.SoundFacts.{Settings, Sound}
+use Rattle.model.specs.Statements.Soundness.{Settings, Sound}
 
 -- ---- a table, and the number that it answers
 
