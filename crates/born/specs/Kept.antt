@@ -8,18 +8,19 @@ use native.Mathlib.Nat.{add-assoc}
 use native.Mathlib.Omega.{arith}
 use borrow.Author.Tests.{eqb-true}
 use lib.Dec.{eqb}
-use lib.ListN.{length, getD, take, drop, replicate, length-append, length-drop}
-use lib.Seq.{take-at, drop-at, getD-take, getD-drop}
-use lib.Ieee.{Float, nan}
+use lib.ListN.{length, take, drop, replicate, length-append, length-drop}
+use lib.Seq.{drop-at}
+use lib.Ieee.{Float}
 use Rattle.complex.specs.Complex.{mulC, zeroC, zeroF}
 use Rattle.complex.specs.Loops.{each, each-same}
-use Rattle.complex.specs.Numbers.{at, store, numbers, length-store, at-store-same, at-store-other, each-length, each-apart, each-at, ext-at, length-numbers, at-numbers, numbers-same}
+use Rattle.complex.specs.Numbers.{at, store, numbers, length-store, at-store-same, at-store-other, each-length, each-apart, each-at, ext-at, length-numbers, at-numbers, numbers-same, at-part}
 use Rattle.complex.specs.Parts.{part, put}
 use Rattle.complex.specs.Matrix.{rows, length-rows, at-rows, rows-same, block-none, length-blocks, block-more}
 use Rattle.complex.specs.declared.Complex.{Complex}
 use Rattle.model.specs.Laws.Tests.{below-or-past}
 use Rattle.model.specs.Slots.{filled, amplitude}
 use Rattle.model.specs.Born.{bitOf, weight, rescale, projectedSite, resetSite}
+use Rattle.columns.specs.Cleared.{rows-cleared}
 
 -- the two rows of a left index: row `from`, times `by`, at row `to`, and +0 in the other row
 unfoldable pub keptPair : ℕ → Bool → Bool → Complex → List Float → List Float
@@ -141,17 +142,6 @@ kept-pair br from to by xs len =
 
 -- ---- the loop over left indices
 
--- number k of a part that begins with number x
-pub at-part : (s e x k : ℕ) (xs : List Float) → s ≡ 2 * x → 2 * k + 1 < e - s → at (part s e xs) k ≡ at xs (x + k)
-unfolding at
-at-part s e x k xs h l =
-    let p : s + 2 * k ≡ 2 * (x + k) = omega arith in
-    let q : s + (2 * k + 1) ≡ 2 * (x + k) + 1 = omega arith in
-    λ i. record {
-      re = (getD-take (e - s) (drop s xs) (2 * k) nan (omega arith) ∙ getD-drop s xs (2 * k) nan ∙ ap (λ (j : ℕ). getD xs j nan) p) i;
-      im = (getD-take (e - s) (drop s xs) (2 * k + 1) nan l ∙ getD-drop s xs (2 * k + 1) nan ∙ ap (λ (j : ℕ). getD xs j nan) q) i;
-    }
-
 -- the rows of left index a
 abbrev pairAt : ℕ → Bool → Bool → Complex → List Float → ℕ → List Float
 pairAt br from to by site a = rows 2 (λ i. numbers br (λ b. cond (eqb i (bitOf to)) (mulC (amplitude site br a (bitOf from) b) by) zeroC))
@@ -188,7 +178,5 @@ module _ (br : ℕ) (from to : Bool) (by : Complex) (o : List Float) where
   pub kept-filled : (bl : ℕ) → bl * (4 * br) ≤ length o
       → take (bl * (4 * br)) (keptSite bl br from to by o ++ drop (bl * (4 * br)) o) ++ replicate (length o - bl * (4 * br)) zeroF
       ≡ filled (length o) (keptSite bl br from to by o)
-  unfolding keptSite filled
-  kept-filled bl h =
-      let e : length (rows bl (pairAt br from to by o)) ≡ bl * (4 * br) = length-blocks (4 * br) (pairAt br from to by o) length-pair bl in
-      rw (take-at (rows bl (pairAt br from to by o)) (drop (bl * (4 * br)) o) (bl * (4 * br)) e, e)
+  unfolding keptSite
+  kept-filled bl h = rows-cleared bl (4 * br) (pairAt br from to by o) length-pair o

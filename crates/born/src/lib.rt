@@ -1,21 +1,21 @@
 // The Born weights of a site, the outcome that a draw picks, and the site projected on an outcome or
 // reset from it. A site's amplitudes stand at the front of its slot, by left index, bit and right
 // index; the rest of a rewritten slot is +0.
+use columns::clear_from;
+use columns::sum_squares;
 use complex::Complex;
 use complex::complex_at;
 use complex::mul;
-use complex::norm_sqr;
 use complex::set_complex;
 use root::root;
 ghost use mathlib.Core.Path.{_≡_};
 ghost use mathlib.Core.List.{_++_};
-ghost use Prim.Native.Nat.{_+_, _-_, _*_, _≤_, _<_};
-ghost use lib.ListN.{length, take, drop, replicate};
+ghost use Prim.Native.Nat.{_+_, _*_, _≤_, _<_};
+ghost use lib.ListN.{length, drop};
 ghost use lib.Ieee as ieee;
 ghost use lib.Ieee.{binary64};
-ghost use Rattle.complex.specs.Complex.{mulC, zeroC, zeroF};
+ghost use Rattle.complex.specs.Complex.{mulC, zeroC};
 ghost use Rattle.complex.specs.Numbers.{count, at, store};
-ghost use Rattle.model.specs.Columns.{squares};
 ghost use Rattle.model.specs.Slots.{filled};
 ghost use Rattle.model.specs.Born.{bitOf, weight as weightOf, rescale, projectedSite, resetSite};
 ghost use Rattle.born.specs.Kept.{keptPair, keptSite};
@@ -26,18 +26,6 @@ fn row_at(o: bool, br: usize) -> usize
     ensures { λ r. ⌜ r ≤ br ⌝ }
 {
     if o { br } else { 0 }
-}
-
-// The squared moduli of the n numbers from base on, summed.
-fn sum_squares(site: &[f64], base: usize, n: usize) -> f64
-    requires { ⌜ base + n ≤ count (now site) ⌝ }
-    ensures { λ r. ⌜ r ≡ squares (now (site .entry)) base n ⌝ }
-{
-    let mut sum = 0.0;
-    for b in 0..n {
-        sum = sum + norm_sqr(complex_at(site, base + b));
-    }
-    sum
 }
 
 // The Born weight of outcome o, not divided by the total of both: each left index is summed first.
@@ -97,23 +85,6 @@ fn keep_rows(slot: &mut [f64], bl: usize, br: usize, from: bool, to: bool, by: C
         let e = s + 4 * br;
         keep_row(&mut slot[s..e], br, from, to, by);
     }
-}
-
-// Every f64 of a slice becomes +0.
-fn fill_zero(s: &mut [f64])
-    ensures { λ _. ⌜ now (s .exit) ≡ replicate (length (now (s .entry))) zeroF ⌝ }
-{
-    for i in 0..s.len() {
-        s[i] = 0.0;
-    }
-}
-
-// Every f64 from `from` on becomes +0.
-fn clear_from(w: &mut [f64], from: usize)
-    requires { ⌜ from ≤ length (now w) ⌝ }
-    ensures { λ _. ⌜ now (w .exit) ≡ take from (now (w .entry)) ++ replicate (length (now (w .entry)) - from) zeroF ⌝ }
-{
-    fill_zero(&mut w[from..]);
 }
 
 // The amplitudes of bit `from`, divided by the root of their weight, at bit `to`; the others, and the

@@ -2,13 +2,14 @@
 use mathlib.Core.Path.{_≡_, refl, sym, ap, _∙_}
 use mathlib.Core.Logic.{_≢_, ⊎-elim}
 use mathlib.Core.List.{List, [], _∷_, _++_}
-use Prim.Native.Nat.{ℕ, zero, suc, _+_, _*_, _/_, _%_, _≤_, _<_}
+use Prim.Native.Nat.{ℕ, zero, suc, _+_, _-_, _*_, _/_, _%_, _≤_, _<_}
 use native.Mathlib.Nat.{le-refl, eq-or-lt-of-le, not-suc-le-zero, le-of-suc-le-suc}
 use native.Mathlib.Omega.{arith}
-use lib.ListN.{length, getD, set, length-set, length-append, List·getD-append}
-use lib.Seq.{ext-getD, getD-set-same, getD-set-other, getD-append-add}
+use lib.ListN.{length, getD, set, take, drop, length-set, length-append, List·getD-append}
+use lib.Seq.{ext-getD, getD-set-same, getD-set-other, getD-append-add, getD-take, getD-drop}
 use lib.Ieee.{Float, nan}
 use Rattle.complex.specs.Loops.{each, each-keeps, each-same}
+use Rattle.complex.specs.Parts.{part}
 use Rattle.complex.specs.declared.Complex.{Complex}
 
 -- how many complex numbers a list holds
@@ -115,6 +116,25 @@ at-right xs ys n r e =
       re = (ap (λ (k : ℕ). getD (xs ++ ys) k nan) a ∙ getD-append-add xs ys (2 * r) nan) i;
       im = (ap (λ (k : ℕ). getD (xs ++ ys) k nan) b ∙ getD-append-add xs ys (2 * r + 1) nan) i;
     }
+
+-- ---- number k of a list's front, and of what lies behind number x
+
+pub at-take : (n k : ℕ) (xs : List Float) → 2 * k + 1 < n → at (take n xs) k ≡ at xs k
+unfolding at
+at-take n k xs h i = record { re = getD-take n xs (2 * k) nan (omega arith) i; im = getD-take n xs (2 * k + 1) nan h i }
+
+pub at-drop : (s x k : ℕ) (xs : List Float) → s ≡ 2 * x → at (drop s xs) k ≡ at xs (x + k)
+unfolding at
+at-drop s x k xs h =
+    let p : s + 2 * k ≡ 2 * (x + k) = omega arith in
+    let q : s + (2 * k + 1) ≡ 2 * (x + k) + 1 = omega arith in
+    λ i. record {
+      re = (getD-drop s xs (2 * k) nan ∙ ap (λ (j : ℕ). getD xs j nan) p) i;
+      im = (getD-drop s xs (2 * k + 1) nan ∙ ap (λ (j : ℕ). getD xs j nan) q) i;
+    }
+
+pub at-part : (s e x k : ℕ) (xs : List Float) → s ≡ 2 * x → 2 * k + 1 < e - s → at (part s e xs) k ≡ at xs (x + k)
+at-part s e x k xs h l = at-take (e - s) k (drop s xs) l ∙ at-drop s x k xs h
 
 -- ---- laws of `numbers`
 

@@ -1,0 +1,2 @@
+-- Laws of cleared slots. The contracts cite the model alone.
+pub mod Cleared
