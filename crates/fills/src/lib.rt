@@ -1,5 +1,9 @@
 // The ways to write a site's slot: from the factors of a cut, and from those of a QR step. What is left of the slot becomes +0.
 // Column g of a factor stands in w from number base + order[g] * stride on, and its value is number vals + order[g].
+use columns::clear_from;
+use columns::conj_row;
+use columns::gather;
+use columns::wide;
 use complex::Complex;
 use complex::complex_at;
 use complex::conj;
@@ -7,39 +11,13 @@ use complex::mul;
 use complex::scale;
 use complex::set_complex;
 ghost use mathlib.Core.Path.{_≡_};
-ghost use mathlib.Core.List.{_++_};
-ghost use Prim.Native.Nat.{_+_, _-_, _*_, _<_, _≤_};
-ghost use lib.ListN.{length, replicate, take};
-ghost use Rattle.complex.specs.Complex.{scaleC, mulC, conjC, real, zeroF};
+ghost use Prim.Native.Nat.{_+_, _*_, _<_, _≤_};
+ghost use lib.ListN.{length};
+ghost use Rattle.complex.specs.Complex.{scaleC, mulC, conjC, real};
 ghost use Rattle.complex.specs.Numbers.{count, at, numbers};
 ghost use Rattle.model.specs.Slots.{filled};
 ghost use Rattle.model.specs.Pair.{isometrySite, scaledSite, vtSite, scaledVtSite};
 ghost use Rattle.fills.specs.Factors.{ColumnsIn, ValuesIn, columnOf, rowOf, valueOf};
-
-// ---- slots
-
-fn wide(x: u8) -> usize
-    ensures { λ r. ⌜ r ≡ x ⌝ }
-{
-    x as usize
-}
-
-// Every f64 of a slice becomes +0.
-fn clear(s: &mut [f64])
-    ensures { λ _. ⌜ now (s .exit) ≡ replicate (length (now (s .entry))) zeroF ⌝ }
-{
-    for i in 0..s.len() {
-        s[i] = 0.0;
-    }
-}
-
-// Every f64 from `from` on becomes +0.
-fn clear_from(s: &mut [f64], from: usize)
-    requires { ⌜ from ≤ length (now s) ⌝ }
-    ensures { λ _. ⌜ now (s .exit) ≡ take from (now (s .entry)) ++ replicate (length (now (s .entry)) - from) zeroF ⌝ }
-{
-    clear(&mut s[from..]);
-}
 
 // ---- the left site: row r has an element of each column
 
@@ -129,15 +107,6 @@ pub fn fill_scaled_u_site_data(
     clear_from(slot, high * size);
 }
 
-fn plain_row(out: &mut [f64], w: &[f64], stride: usize, r: usize, chi: usize)
-    requires { ⌜ (length (now out) ≡ 2 * chi) × (r < stride) × (chi * stride ≤ count (now w)) ⌝ }
-    ensures { λ _. ⌜ now (out .exit) ≡ numbers chi (λ g. at (now (w .entry)) (g * stride + r)) ⌝ }
-{
-    for g in 0..chi {
-        set_complex(out, g, complex_at(w, g * stride + r));
-    }
-}
-
 // The first chi columns of w, a matrix of `stride` rows, in their own order.
 pub fn fill_columns(slot: &mut [f64], w: &[f64], stride: usize, bl: usize, chi: usize)
     requires { ⌜ (bl ≤ 128) × (chi ≤ 256) × (2 * (2 * bl * chi) ≤ length (now slot)) × (2 * bl ≤ stride) × (chi * stride ≤ count (now w)) ⌝ }
@@ -148,21 +117,12 @@ pub fn fill_columns(slot: &mut [f64], w: &[f64], stride: usize, bl: usize, chi: 
     for r in 0..high {
         let a = r * size;
         let e = a + size;
-        plain_row(&mut slot[a..e], w, stride, r, chi);
+        gather(&mut slot[a..e], w, stride, r, chi);
     }
     clear_from(slot, high * size);
 }
 
 // ---- the right site: row g is a column's conjugate
-
-fn conj_row(out: &mut [f64], w: &[f64], base: usize, start: usize, n: usize)
-    requires { ⌜ (length (now out) ≡ 2 * n) × (base + (start + n) ≤ count (now w)) ⌝ }
-    ensures { λ _. ⌜ now (out .exit) ≡ numbers n (λ c. conjC (at (now (w .entry)) (base + (start + c)))) ⌝ }
-{
-    for c in 0..n {
-        set_complex(out, c, conj(complex_at(w, base + (start + c))));
-    }
-}
 
 // The rows of V† as they are.
 pub fn fill_vt_site_data(

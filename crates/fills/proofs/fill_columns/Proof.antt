@@ -8,7 +8,7 @@ use lib.ListN.{length, drop}
 use Rattle.complex.specs.Numbers.{at, numbers, length-numbers}
 use Rattle.complex.specs.Matrix.{rows, block-none, block-more}
 use Rattle.model.specs.Pair.{isometrySite}
-use Rattle.fills.proofs.Rows.{rest-cleared}
+use Rattle.columns.specs.Cleared.{rows-cleared}
 use Rattle.fills.proofs.fill_columns.Statement.{statement}
 use Rattle.fills.proofs.fill_columns.Tie as tie
 
@@ -33,20 +33,20 @@ mul-a c = let s = (c .before .before .before .before) in let a = s .args in omeg
 add-e : tie.Need-add-e Inv-loop μ-loop
 add-e c = let s = (c .before .before .before .before) in let a = s .args in omega (arith, s .pre .2, mul-le-mul-right (2 * a .chi) (c .loop-test .taken))
 
-mul-plain-row : tie.Need-mul-plain-row Inv-loop μ-loop
-mul-plain-row c = let s = (c .before .before .before .before) in let a = s .args in omega (arith, s .pre .2, mul-le-mul-right (2 * a .chi) (c .loop-test .taken))
+mul-gather : tie.Need-mul-gather Inv-loop μ-loop
+mul-gather c = let s = (c .before .before .before .before) in let a = s .args in omega (arith, s .pre .2, mul-le-mul-right (2 * a .chi) (c .loop-test .taken))
 
-sub-plain-row : tie.Need-sub-plain-row Inv-loop μ-loop
-sub-plain-row c = let s = (c .before .before .before .before) in let a = s .args in omega (arith, s .pre .2, mul-le-mul-right (2 * a .chi) (c .loop-test .taken))
+sub-gather : tie.Need-sub-gather Inv-loop μ-loop
+sub-gather c = let s = (c .before .before .before .before) in let a = s .args in omega (arith, s .pre .2, mul-le-mul-right (2 * a .chi) (c .loop-test .taken))
 
-part-plain-row-start : tie.Need-part-plain-row-start Inv-loop μ-loop
-part-plain-row-start c = let s = (c .before .before .before .before) in let a = s .args in omega (arith, s .pre .2, mul-le-mul-right (2 * a .chi) (c .loop-test .taken))
+part-gather-start : tie.Need-part-gather-start Inv-loop μ-loop
+part-gather-start c = let s = (c .before .before .before .before) in let a = s .args in omega (arith, s .pre .2, mul-le-mul-right (2 * a .chi) (c .loop-test .taken))
 
-part-plain-row-end : tie.Need-part-plain-row-end Inv-loop μ-loop
-part-plain-row-end c = let s = (c .before .before .before .before) in let a = s .args in omega (arith, s .pre .2, mul-le-mul-right (2 * a .chi) (c .loop-test .taken))
+part-gather-end : tie.Need-part-gather-end Inv-loop μ-loop
+part-gather-end c = let s = (c .before .before .before .before) in let a = s .args in omega (arith, s .pre .2, mul-le-mul-right (2 * a .chi) (c .loop-test .taken))
 
-plain-row-requires : tie.Need-plain-row-requires Inv-loop μ-loop
-plain-row-requires c κs = let s = (c .before .before .before .before .before) in let a = s .args in omega (arith, s .pre .2, s .pre .3, s .pre .4, c .before .loop-test .taken, mul-le-mul-right (2 * a .chi) (c .before .loop-test .taken))
+gather-requires : tie.Need-gather-requires Inv-loop μ-loop
+gather-requires c κs = let s = (c .before .before .before .before .before) in let a = s .args in omega (arith, s .pre .2, s .pre .3, s .pre .4, c .before .loop-test .taken, mul-le-mul-right (2 * a .chi) (c .before .loop-test .taken))
 
 add-r : tie.Need-add-r Inv-loop μ-loop
 add-r c = let s = (c .before .before .before .before .before .before .before .before) in omega (arith, c .before .before .before .before .loop-test .taken)
@@ -55,7 +55,7 @@ loop-less : tie.Need-loop-less Inv-loop μ-loop
 loop-less c = omega (arith, c .before .before .before .before .loop-test .taken)
 
 loop-again : tie.Need-loop-again Inv-loop μ-loop
-loop-again c = let s = (c .before .before .before .before .before .before .before .before) in let a = s .args in let x = c .before .before .before .before .loop-test .taken in (omega arith, omega (arith, c .before .before .plain-row .kept, c .before .before .before .before .before .loop .inv .1), rw (c .before .before .plain-row .ensures, c .before .before .before .before .before .loop .inv .2) (block-more (2 * a .chi) (λ r. numbers (a .chi) (λ g. at (a .w .now) (g * (a .stride) + r))) (λ r. length-numbers (a .chi) _) (c .before .before .before .before .before .loop .r) (a .slot .now) (omega (arith, s .pre .2, mul-le-mul-right (2 * a .chi) x))))
+loop-again c = let s = (c .before .before .before .before .before .before .before .before) in let a = s .args in let x = c .before .before .before .before .loop-test .taken in (omega arith, omega (arith, c .before .before .gather .kept, c .before .before .before .before .before .loop .inv .1), rw (c .before .before .gather .ensures, c .before .before .before .before .before .loop .inv .2) (block-more (2 * a .chi) (λ r. numbers (a .chi) (λ g. at (a .w .now) (g * (a .stride) + r))) (λ r. length-numbers (a .chi) _) (c .before .before .before .before .before .loop .r) (a .slot .now) (omega (arith, s .pre .2, mul-le-mul-right (2 * a .chi) x))))
 
 mul-clear-from : tie.Need-mul-clear-from Inv-loop μ-loop
 mul-clear-from c = let s = (c .before .before .before .before .before) in omega (arith, s .pre .2)
@@ -68,7 +68,7 @@ same-length c = omega (arith, c .before .before .clear-from .kept, c .before .be
 
 returns : tie.Need-returns Inv-loop μ-loop
 unfolding isometrySite
-returns c = let a = c .before .before .before .before .before .before .before .before .args in rw (c .before .before .clear-from .ensures, c .before .before .before .before .before .loop .inv .1, c .before .before .before .before .before .loop .inv .2, le-antisymm (c .before .before .before .before .before .loop .inv .0) (c .before .before .before .before .loop-test .left)) (rest-cleared (2 * a .bl) (2 * a .chi) (λ r. numbers (a .chi) (λ g. at (a .w .now) (g * (a .stride) + r))) (λ r. length-numbers (a .chi) _) (a .slot .now))
+returns c = let a = c .before .before .before .before .before .before .before .before .args in rw (c .before .before .clear-from .ensures, c .before .before .before .before .before .loop .inv .1, c .before .before .before .before .before .loop .inv .2, le-antisymm (c .before .before .before .before .before .loop .inv .0) (c .before .before .before .before .loop-test .left)) (rows-cleared (2 * a .bl) (2 * a .chi) (λ r. numbers (a .chi) (λ g. at (a .w .now) (g * (a .stride) + r))) (λ r. length-numbers (a .chi) _) (a .slot .now))
 
 pub fill-columns-spec : {M : Type 1} → statement M
 fill-columns-spec =
@@ -81,11 +81,11 @@ fill-columns-spec =
     loop-holds
     mul-a
     add-e
-    mul-plain-row
-    sub-plain-row
-    part-plain-row-start
-    part-plain-row-end
-    plain-row-requires
+    mul-gather
+    sub-gather
+    part-gather-start
+    part-gather-end
+    gather-requires
     add-r
     loop-less
     loop-again

@@ -10,7 +10,7 @@ use Rattle.complex.specs.Numbers.{at, numbers, length-numbers}
 use Rattle.complex.specs.Matrix.{rows, block-none, block-more}
 use Rattle.model.specs.Slots.{filled}
 use Rattle.model.specs.Pair.{vtSite}
-use Rattle.fills.proofs.Rows.{rest-cleared}
+use Rattle.columns.specs.Cleared.{rows-cleared}
 use Rattle.fills.proofs.fill_rows_conj.Statement.{statement}
 use Rattle.fills.proofs.fill_rows_conj.Tie as tie
 
@@ -73,7 +73,7 @@ same-length c = omega (arith, c .before .before .clear-from .kept, c .before .be
 
 returns : tie.Need-returns Inv-loop μ-loop
 unfolding vtSite
-returns c = let a = c .before .before .before .before .before .before .before .before .args in rw (c .before .before .clear-from .ensures, c .before .before .before .before .before .loop .inv .1, c .before .before .before .before .before .loop .inv .2, le-antisymm (c .before .before .before .before .before .loop .inv .0) (c .before .before .before .before .loop-test .left)) (rest-cleared (a .chi) (2 * (2 * a .br)) (λ g. numbers (2 * a .br) (λ c. conjC (at (a .w .now) (0 + (g * (a .stride) + c))))) (λ g. length-numbers (2 * a .br) _) (a .slot .now))
+returns c = let a = c .before .before .before .before .before .before .before .before .args in rw (c .before .before .clear-from .ensures, c .before .before .before .before .before .loop .inv .1, c .before .before .before .before .before .loop .inv .2, le-antisymm (c .before .before .before .before .before .loop .inv .0) (c .before .before .before .before .loop-test .left)) (rows-cleared (a .chi) (2 * (2 * a .br)) (λ g. numbers (2 * a .br) (λ c. conjC (at (a .w .now) (0 + (g * (a .stride) + c))))) (λ g. length-numbers (2 * a .br) _) (a .slot .now))
     ∙ (λ i. filled (length (a .slot .now)) (vtSite (a .chi) (a .br) (λ g c. conjC (at (a .w .now) (zero-add (g * a .stride + c) i)))))
 
 pub fill-rows-conj-spec : {M : Type 1} → statement M

@@ -10,7 +10,7 @@ use Rattle.fills.specs.Factors.{columnOf, valueOf}
 use Rattle.complex.specs.Numbers.{numbers, length-numbers}
 use Rattle.complex.specs.Matrix.{rows, block-none, block-more}
 use Rattle.model.specs.Pair.{scaledSite}
-use Rattle.fills.proofs.Rows.{rest-cleared}
+use Rattle.columns.specs.Cleared.{rows-cleared}
 use Rattle.fills.proofs.fill_scaled_u_site_data.Statement.{statement}
 use Rattle.fills.proofs.fill_scaled_u_site_data.Tie as tie
 
@@ -70,7 +70,7 @@ same-length c = omega (arith, c .before .before .clear-from .kept, c .before .be
 
 returns : tie.Need-returns Inv-loop μ-loop
 unfolding scaledSite
-returns c = let a = c .before .before .before .before .before .before .before .before .before .args in rw (c .before .before .clear-from .ensures, c .before .before .before .before .before .loop .inv .1, c .before .before .before .before .before .loop .inv .2, le-antisymm (c .before .before .before .before .before .loop .inv .0) (c .before .before .before .before .loop-test .left)) (rest-cleared (2 * a .bl) (2 * a .chi) (λ r. numbers (a .chi) (λ g. scaleC (columnOf (a .w .now) (a .order .now) (a .base) (a .stride) r g) (valueOf (a .w .now) (a .order .now) (a .vals) g))) (λ r. length-numbers (a .chi) _) (a .slot .now))
+returns c = let a = c .before .before .before .before .before .before .before .before .before .args in rw (c .before .before .clear-from .ensures, c .before .before .before .before .before .loop .inv .1, c .before .before .before .before .before .loop .inv .2, le-antisymm (c .before .before .before .before .before .loop .inv .0) (c .before .before .before .before .loop-test .left)) (rows-cleared (2 * a .bl) (2 * a .chi) (λ r. numbers (a .chi) (λ g. scaleC (columnOf (a .w .now) (a .order .now) (a .base) (a .stride) r g) (valueOf (a .w .now) (a .order .now) (a .vals) g))) (λ r. length-numbers (a .chi) _) (a .slot .now))
 
 pub fill-scaled-u-site-data-spec : {M : Type 1} → statement M
 fill-scaled-u-site-data-spec =

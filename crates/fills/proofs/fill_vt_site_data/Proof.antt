@@ -9,7 +9,7 @@ use Rattle.fills.specs.Factors.{rowOf}
 use Rattle.complex.specs.Numbers.{numbers, length-numbers}
 use Rattle.complex.specs.Matrix.{rows, block-none, block-more}
 use Rattle.model.specs.Pair.{vtSite}
-use Rattle.fills.proofs.Rows.{rest-cleared}
+use Rattle.columns.specs.Cleared.{rows-cleared}
 use Rattle.fills.proofs.fill_vt_site_data.Statement.{statement}
 use Rattle.fills.proofs.fill_vt_site_data.Tie as tie
 
@@ -78,7 +78,7 @@ same-length c = omega (arith, c .before .before .clear-from .kept, c .before .be
 
 returns : tie.Need-returns Inv-loop μ-loop
 unfolding vtSite
-returns c = let a = c .before .before .before .before .before .before .before .before .before .args in rw (c .before .before .clear-from .ensures, c .before .before .before .before .before .loop .inv .1, c .before .before .before .before .before .loop .inv .2, le-antisymm (c .before .before .before .before .before .loop .inv .0) (c .before .before .before .before .loop-test .left)) (rest-cleared (a .chi) (2 * (2 * a .br)) (λ g. numbers (2 * a .br) (λ c. rowOf (a .w .now) (a .order .now) (a .base) (a .stride) g c)) (λ g. length-numbers (2 * a .br) _) (a .slot .now))
+returns c = let a = c .before .before .before .before .before .before .before .before .before .args in rw (c .before .before .clear-from .ensures, c .before .before .before .before .before .loop .inv .1, c .before .before .before .before .before .loop .inv .2, le-antisymm (c .before .before .before .before .before .loop .inv .0) (c .before .before .before .before .loop-test .left)) (rows-cleared (a .chi) (2 * (2 * a .br)) (λ g. numbers (2 * a .br) (λ c. rowOf (a .w .now) (a .order .now) (a .base) (a .stride) g c)) (λ g. length-numbers (2 * a .br) _) (a .slot .now))
 
 pub fill-vt-site-data-spec : {M : Type 1} → statement M
 fill-vt-site-data-spec =
