@@ -1,19 +1,17 @@
--- A list that is written from the front with the elements of another, a slot of which the rest is cleared, and what a copy of a neighbour's numbers is good for.
-use mathlib.Core.Path.{_≡_, refl, sym, ap, _∙_}
+-- A list that is written from the front with the elements of another, and what a copy of a neighbour's numbers is good for.
+use mathlib.Core.Path.{_≡_, refl, ap}
 use mathlib.Core.List.{List, [], _∷_, _++_, append-nil}
-use Prim.Native.Nat.{ℕ, zero, suc, _+_, _-_, _*_, _≤_, _<_}
+use Prim.Native.Nat.{ℕ, zero, suc, _+_, _*_, _≤_, _<_}
 use native.Mathlib.Nat.{le-of-suc-le-suc, not-suc-le-zero, mul-le-mul-right}
 use native.Mathlib.Numerals.{add-one}
 use native.Mathlib.Omega.{arith}
-use lib.ListN.{length, take, drop, set, getD, replicate, length-drop, length-append}
-use lib.Seq.{getD-take, drop-length, take-all, take-at, drop-at}
-use lib.Ieee.{Float, nan}
-use Rattle.complex.specs.Complex.{zeroC, zeroF}
+use lib.ListN.{length, take, drop, set, getD}
+use lib.Seq.{drop-length}
+use lib.Ieee.{Float}
+use Rattle.complex.specs.Complex.{zeroC}
 use Rattle.complex.specs.Loops.{each-same}
-use Rattle.complex.specs.Parts.{part, put}
-use Rattle.complex.specs.Numbers.{at, numbers-same}
+use Rattle.complex.specs.Numbers.{numbers-same, at-take}
 use Rattle.complex.specs.Matrix.{rows-same}
-use Rattle.model.specs.Slots.{filled}
 use Rattle.model.specs.Qr.{Kept}
 use Rattle.model.specs.Moves.{absorbedRight, absorbedLeft}
 
@@ -29,22 +27,7 @@ copy-more n xs d z h l = rw add-one (copy-suc n xs d z h l)
 pub copy-all : {A : Type 0} (n : ℕ) (xs d : List A) → n ≡ length d → take n xs ++ drop n d ≡ take (length d) xs
 copy-all n xs d e = rw (e, drop-length, append-nil)
 
--- a slot whose first k numbers are xs, and whose rest is cleared
-pub cleared : (k : ℕ) (o xs : List Float) → length xs ≡ k → k ≤ length o
-    → put k (length (xs ++ drop k o)) (xs ++ drop k o) (replicate (length (part k (length (xs ++ drop k o)) (xs ++ drop k o))) zeroF) ≡ filled (length o) xs
-unfolding filled
-cleared k o xs e h =
-    let l : length (drop k o) ≡ length o - k = length-drop k o in
-    let q : length (xs ++ drop k o) ≡ length o = simp length-append (omega arith) in
-    let t : take (length o - k) (drop k o) ≡ drop k o = take-all (length o - k) (drop k o) (omega arith) in
-    let d : drop (length o - k) (drop k o) ≡ [] = ap (λ (j : ℕ). drop j (drop k o)) (sym l) ∙ drop-length (drop k o) in
-    rw (q, take-at xs (drop k o) k e, drop-at xs (drop k o) k e, t, d, append-nil, l, e)
-
 -- ---- a copy of the neighbour's numbers serves as well as its slot
-
-at-take : (n k : ℕ) (xs : List Float) → 2 * k + 1 < n → at (take n xs) k ≡ at xs k
-unfolding at
-at-take n k xs h i = record { re = getD-take n xs (2 * k) nan (omega arith) i; im = getD-take n xs (2 * k + 1) nan h i }
 
 pub absorbed-right-copy : (bl bond br n : ℕ) (f : Kept) (next : List Float) → 2 * (bond * (2 * br)) ≤ n → absorbedRight bl bond br f (take n next) ≡ absorbedRight bl bond br f next
 unfolding absorbedRight

@@ -1,2 +1,2 @@
--- Laws of copies and of cleared slots. The contracts cite the model alone.
+-- Laws of copies. The contracts cite the model alone.
 pub mod Copies

@@ -1,5 +1,8 @@
 // One step of the centre beside the factoring: a site as the matrix that is factored, and r multiplied into the neighbour.
 // The factored list w holds q by columns and, from number bond * (2 * bl) on (2 * br to the left), r by rows of `bond` numbers.
+use columns::clear_from;
+use columns::conj_row;
+use columns::gather;
 use complex::Complex;
 use complex::add;
 use complex::complex_at;
@@ -8,8 +11,8 @@ use complex::mul;
 use complex::set_complex;
 ghost use mathlib.Core.Path.{_≡_};
 ghost use Prim.Native.Nat.{_+_, _*_, _<_, _≤_};
-ghost use lib.ListN.{length, take, replicate};
-ghost use Rattle.complex.specs.Complex.{mulC, conjC, zeroC, zeroF};
+ghost use lib.ListN.{length, take};
+ghost use Rattle.complex.specs.Complex.{mulC, conjC, zeroC};
 ghost use Rattle.complex.specs.Loops.{sumC};
 ghost use Rattle.complex.specs.Numbers.{count, at, numbers};
 ghost use Rattle.model.specs.Slots.{filled};
@@ -17,16 +20,6 @@ ghost use Rattle.model.specs.Qr.{kept};
 ghost use Rattle.model.specs.Moves.{rightMatrix, leftMatrix, absorbedRight, absorbedLeft};
 
 // ---- a site as the matrix that is factored
-
-// Column g of a matrix of `high` rows that lies by rows of `bond` numbers.
-fn column(site: &[f64], out: &mut [f64], high: usize, bond: usize, g: usize)
-    requires { ⌜ (g < bond) × (high * bond ≤ count (now site)) × (length (now out) ≡ 2 * high) ⌝ }
-    ensures { λ _. ⌜ now (out .exit) ≡ numbers high (λ r. at (now (site .entry)) (r * bond + g)) ⌝ }
-{
-    for r in 0..high {
-        set_complex(out, r, complex_at(site, r * bond + g));
-    }
-}
 
 // The site as a matrix of 2 * bl rows and `bond` columns, by columns.
 pub fn right_matrix(site: &[f64], out: &mut [f64], bl: usize, bond: usize)
@@ -38,17 +31,7 @@ pub fn right_matrix(site: &[f64], out: &mut [f64], bl: usize, bond: usize)
     for g in 0..bond {
         let a = g * w;
         let e = a + w;
-        column(site, &mut out[a..e], high, bond, g);
-    }
-}
-
-// Row g of a matrix of `wide` columns, each number conjugated.
-fn conj_row(site: &[f64], out: &mut [f64], wide: usize, g: usize)
-    requires { ⌜ (g * wide + wide ≤ count (now site)) × (length (now out) ≡ 2 * wide) ⌝ }
-    ensures { λ _. ⌜ now (out .exit) ≡ numbers wide (λ c. conjC (at (now (site .entry)) (g * wide + c))) ⌝ }
-{
-    for c in 0..wide {
-        set_complex(out, c, conj(complex_at(site, g * wide + c)));
+        gather(&mut out[a..e], site, bond, g, high);
     }
 }
 
@@ -62,18 +45,7 @@ pub fn left_matrix(site: &[f64], out: &mut [f64], bond: usize, br: usize)
     for g in 0..bond {
         let a = g * w;
         let e = a + w;
-        conj_row(site, &mut out[a..e], wide, g);
-    }
-}
-
-// ---- slots
-
-// Every f64 of a slice becomes +0.
-fn clear(s: &mut [f64])
-    ensures { λ _. ⌜ now (s .exit) ≡ replicate (length (now (s .entry))) zeroF ⌝ }
-{
-    for i in 0..s.len() {
-        s[i] = 0.0;
+        conj_row(&mut out[a..e], site, 0, g * wide, wide);
     }
 }
 
@@ -173,7 +145,7 @@ pub fn absorb_right(
 {
     let k = 2 * (chi * (2 * br));
     right_rows(&mut slot[..k], w, next, bl, bond, br, chi);
-    clear(&mut slot[k..]);
+    clear_from(slot, k);
 }
 
 // ---- to the left
@@ -254,5 +226,5 @@ pub fn absorb_left(
 {
     let k = 2 * (2 * bl * chi);
     left_rows(&mut slot[..k], w, prev, bl, bond, br, chi);
-    clear(&mut slot[k..]);
+    clear_from(slot, k);
 }

@@ -1,8 +1,8 @@
 -- The invariant: the first g columns stand in out, and the rest is as it was.
-use mathlib.Core.Path.{_≡_}
+use mathlib.Core.Path.{_≡_, _∙_}
 use mathlib.Core.List.{_++_}
 use Prim.Native.Nat.{_≤_, _-_, _+_, _*_}
-use native.Mathlib.Nat.{mul-le-mul-right, le-antisymm, zero-mul}
+use native.Mathlib.Nat.{mul-le-mul-right, le-antisymm, zero-mul, zero-add}
 use native.Mathlib.Omega.{arith}
 use lib.ListN.{length, drop}
 use Rattle.complex.specs.Complex.{conjC}
@@ -12,7 +12,7 @@ use Rattle.gauge.proofs.left_matrix.Statement.{statement}
 use Rattle.gauge.proofs.left_matrix.Tie as tie
 
 abbrev Inv-loop : tie.InvT-loop
-Inv-loop site out₀ bond br wide w g₀ out g = (g ≤ bond) × (length out ≡ length out₀) × (out ≡ rows g (λ g. numbers wide (λ c. conjC (at site (g * wide + c)))) ++ drop (g * w) out₀)
+Inv-loop site out₀ bond br wide w g₀ out g = (g ≤ bond) × (length out ≡ length out₀) × (out ≡ rows g (λ g. numbers wide (λ c. conjC (at site (0 + (g * wide + c))))) ++ drop (g * w) out₀)
 
 abbrev μ-loop : tie.MeasureT-loop
 μ-loop site out₀ bond br wide w g₀ out g = bond - g
@@ -44,6 +44,9 @@ part-conj-row-start c = omega (arith, mul-le-mul-right (c .before .before .befor
 part-conj-row-end : tie.Need-part-conj-row-end Inv-loop μ-loop
 part-conj-row-end c = omega (arith, mul-le-mul-right (c .before .before .before .before .args .br) (c .loop-test .taken))
 
+mul-conj-row-2 : tie.Need-mul-conj-row-2 Inv-loop μ-loop
+mul-conj-row-2 c = omega (arith, mul-le-mul-right (c .before .before .before .before .before .args .br) (c .before .loop-test .taken))
+
 conj-row-requires : tie.Need-conj-row-requires Inv-loop μ-loop
 conj-row-requires c κs = omega (arith, mul-le-mul-right (c .before .before .before .before .before .args .br) (c .before .loop-test .taken))
 
@@ -54,13 +57,15 @@ loop-less : tie.Need-loop-less Inv-loop μ-loop
 loop-less c = omega arith
 
 loop-again : tie.Need-loop-again Inv-loop μ-loop
-loop-again c = (omega arith, omega arith, rw (c .before .before .conj-row .ensures, c .before .before .before .before .before .loop .inv .2) (block-more (2 * (2 * c .before .before .before .before .before .before .before .before .args .br)) (λ g. numbers (2 * c .before .before .before .before .before .before .before .before .args .br) (λ i. conjC (at (c .before .before .before .before .before .before .before .before .args .site .now) (g * (2 * c .before .before .before .before .before .before .before .before .args .br) + i)))) (λ g. length-numbers (2 * c .before .before .before .before .before .before .before .before .args .br) _) (c .before .before .before .before .before .loop .g) (c .before .before .before .before .before .before .before .before .args .out .now) (omega (arith, mul-le-mul-right (c .before .before .before .before .before .before .before .before .args .br) (c .before .before .before .before .loop-test .taken)))))
+loop-again c = (omega arith, omega arith, rw (c .before .before .conj-row .ensures, c .before .before .before .before .before .loop .inv .2) (block-more (2 * (2 * c .before .before .before .before .before .before .before .before .args .br)) (λ g. numbers (2 * c .before .before .before .before .before .before .before .before .args .br) (λ i. conjC (at (c .before .before .before .before .before .before .before .before .args .site .now) (0 + (g * (2 * c .before .before .before .before .before .before .before .before .args .br) + i))))) (λ g. length-numbers (2 * c .before .before .before .before .before .before .before .before .args .br) _) (c .before .before .before .before .before .loop .g) (c .before .before .before .before .before .before .before .before .args .out .now) (omega (arith, mul-le-mul-right (c .before .before .before .before .before .before .before .before .args .br) (c .before .before .before .before .loop-test .taken)))))
 
 same-length : tie.Need-same-length Inv-loop μ-loop
 same-length c = omega arith
 
 returns : tie.Need-returns Inv-loop μ-loop
-returns c = cc (le-antisymm (c .before .loop .inv .0) (c .loop-test .left), block-all (2 * (2 * c .before .before .before .before .args .br)) (λ g. numbers (2 * c .before .before .before .before .args .br) (λ i. conjC (at (c .before .before .before .before .args .site .now) (g * (2 * c .before .before .before .before .args .br) + i)))) (λ g. length-numbers (2 * c .before .before .before .before .args .br) _) (c .before .before .before .before .args .bond) (c .before .before .before .before .args .out .now) (omega arith))
+returns c = let x = c .before .before .before .before .args in
+    rw (c .before .loop .inv .2, le-antisymm (c .before .loop .inv .0) (c .loop-test .left)) (block-all (2 * (2 * x .br)) (λ g. numbers (2 * x .br) (λ i. conjC (at (x .site .now) (0 + (g * (2 * x .br) + i))))) (λ g. length-numbers (2 * x .br) _) (x .bond) (x .out .now) (omega arith))
+    ∙ (λ i. rows (x .bond) (λ g. numbers (2 * x .br) (λ c. conjC (at (x .site .now) (zero-add (g * (2 * x .br) + c) i)))))
 
 pub left-matrix-spec : {M : Type 1} → statement M
 left-matrix-spec =
@@ -77,6 +82,7 @@ left-matrix-spec =
     sub-conj-row
     part-conj-row-start
     part-conj-row-end
+    mul-conj-row-2
     conj-row-requires
     add-g
     loop-less

@@ -31,20 +31,20 @@ mul-a c = omega (arith, mul-le-mul-right (c .before .before .before .before .arg
 add-e : tie.Need-add-e Inv-loop μ-loop
 add-e c = omega (arith, mul-le-mul-right (c .before .before .before .before .args .bl) (c .loop-test .taken))
 
-mul-column : tie.Need-mul-column Inv-loop μ-loop
-mul-column c = omega (arith, mul-le-mul-right (c .before .before .before .before .args .bl) (c .loop-test .taken))
+mul-gather : tie.Need-mul-gather Inv-loop μ-loop
+mul-gather c = omega (arith, mul-le-mul-right (c .before .before .before .before .args .bl) (c .loop-test .taken))
 
-sub-column : tie.Need-sub-column Inv-loop μ-loop
-sub-column c = omega (arith, mul-le-mul-right (c .before .before .before .before .args .bl) (c .loop-test .taken))
+sub-gather : tie.Need-sub-gather Inv-loop μ-loop
+sub-gather c = omega (arith, mul-le-mul-right (c .before .before .before .before .args .bl) (c .loop-test .taken))
 
-part-column-start : tie.Need-part-column-start Inv-loop μ-loop
-part-column-start c = omega (arith, mul-le-mul-right (c .before .before .before .before .args .bl) (c .loop-test .taken))
+part-gather-start : tie.Need-part-gather-start Inv-loop μ-loop
+part-gather-start c = omega (arith, mul-le-mul-right (c .before .before .before .before .args .bl) (c .loop-test .taken))
 
-part-column-end : tie.Need-part-column-end Inv-loop μ-loop
-part-column-end c = omega (arith, mul-le-mul-right (c .before .before .before .before .args .bl) (c .loop-test .taken))
+part-gather-end : tie.Need-part-gather-end Inv-loop μ-loop
+part-gather-end c = omega (arith, mul-le-mul-right (c .before .before .before .before .args .bl) (c .loop-test .taken))
 
-column-requires : tie.Need-column-requires Inv-loop μ-loop
-column-requires c κs = omega (arith, mul-le-mul-right (c .before .before .before .before .before .args .bl) (c .before .loop-test .taken))
+gather-requires : tie.Need-gather-requires Inv-loop μ-loop
+gather-requires c κs = omega (arith, mul-le-mul-right (c .before .before .before .before .before .args .bl) (c .before .loop-test .taken))
 
 add-g : tie.Need-add-g Inv-loop μ-loop
 add-g c = omega arith
@@ -53,7 +53,7 @@ loop-less : tie.Need-loop-less Inv-loop μ-loop
 loop-less c = omega arith
 
 loop-again : tie.Need-loop-again Inv-loop μ-loop
-loop-again c = (omega arith, omega arith, rw (c .before .before .column .ensures, c .before .before .before .before .before .loop .inv .2) (block-more (2 * (2 * c .before .before .before .before .before .before .before .before .args .bl)) (λ g. numbers (2 * c .before .before .before .before .before .before .before .before .args .bl) (λ r. at (c .before .before .before .before .before .before .before .before .args .site .now) (r * c .before .before .before .before .before .before .before .before .args .bond + g))) (λ g. length-numbers (2 * c .before .before .before .before .before .before .before .before .args .bl) _) (c .before .before .before .before .before .loop .g) (c .before .before .before .before .before .before .before .before .args .out .now) (omega (arith, mul-le-mul-right (c .before .before .before .before .before .before .before .before .args .bl) (c .before .before .before .before .loop-test .taken)))))
+loop-again c = (omega arith, omega arith, rw (c .before .before .gather .ensures, c .before .before .before .before .before .loop .inv .2) (block-more (2 * (2 * c .before .before .before .before .before .before .before .before .args .bl)) (λ g. numbers (2 * c .before .before .before .before .before .before .before .before .args .bl) (λ r. at (c .before .before .before .before .before .before .before .before .args .site .now) (r * c .before .before .before .before .before .before .before .before .args .bond + g))) (λ g. length-numbers (2 * c .before .before .before .before .before .before .before .before .args .bl) _) (c .before .before .before .before .before .loop .g) (c .before .before .before .before .before .before .before .before .args .out .now) (omega (arith, mul-le-mul-right (c .before .before .before .before .before .before .before .before .args .bl) (c .before .before .before .before .loop-test .taken)))))
 
 same-length : tie.Need-same-length Inv-loop μ-loop
 same-length c = omega arith
@@ -72,11 +72,11 @@ right-matrix-spec =
     loop-holds
     mul-a
     add-e
-    mul-column
-    sub-column
-    part-column-start
-    part-column-end
-    column-requires
+    mul-gather
+    sub-gather
+    part-gather-start
+    part-gather-end
+    gather-requires
     add-g
     loop-less
     loop-again
