@@ -4,6 +4,7 @@
 use columns::clear_from;
 use columns::l2_norm;
 use columns::scale_to;
+use columns::smaller;
 use columns::zero_run;
 use complex::Complex;
 use complex::add;
@@ -164,12 +165,6 @@ fn raise(w: &mut [f64], high: usize, rank: usize) -> usize
         return 1;
     }
     rank
-}
-
-fn smaller(a: usize, b: usize) -> usize
-    ensures { λ r. ⌜ r ≡ min a b ⌝ }
-{
-    if a < b { a } else { b }
 }
 
 // The factoring of the matrix that w begins with; the rest of w is room for r. Answers how many columns q has.

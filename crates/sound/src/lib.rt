@@ -1,5 +1,6 @@
 // Whether a chain record is sound, and its parts that are asked by themselves: the settings that
 // start takes, and a share, as a draw is.
+use columns::wide;
 use model::Center;
 use model::Chain;
 ghost use mathlib.Core.Path.{_≡_};
@@ -9,13 +10,6 @@ ghost use lib.Dec.{leb, ltb, eqb};
 ghost use lib.ListN.{getD};
 ghost use Rattle.complex.specs.Loops.{every};
 ghost use Rattle.model.specs.Sound.{within, share01, settingsFit, entryFits, bondsFit, undoes, centerFits, sound};
-
-// A byte as a number.
-fn wide(x: u8) -> usize
-    ensures { λ r. ⌜ r ≡ x ⌝ }
-{
-    x as usize
-}
 
 // Whether x is from low to high.
 fn is_within(low: usize, high: usize, x: usize) -> bool

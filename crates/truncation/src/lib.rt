@@ -1,6 +1,8 @@
 // What a cut keeps of its singular values, given in order, and the weight that it records as discarded.
+use columns::larger;
+use columns::smaller;
 ghost use mathlib.Core.Path.{_≡_};
-ghost use Prim.Native.Nat.{_≤_, min, max};
+ghost use Prim.Native.Nat.{_≤_};
 ghost use lib.ListN.{length, getD};
 ghost use Rattle.complex.specs.Complex.{zeroF};
 ghost use Rattle.model.specs.Truncation.{leading, rank, resolvable, squaresFrom, share, recorded};
@@ -29,18 +31,6 @@ fn count_leading(s: &[f64], threshold: f64) -> usize
         }
     }
     s.len()
-}
-
-fn larger(a: usize, b: usize) -> usize
-    ensures { λ r. ⌜ r ≡ max a b ⌝ }
-{
-    if a < b { b } else { a }
-}
-
-fn smaller(a: usize, b: usize) -> usize
-    ensures { λ r. ⌜ r ≡ min a b ⌝ }
-{
-    if a < b { a } else { b }
 }
 
 // How many values are kept: those above epsilon times the first, at least 1, at most max_bond_dim.
