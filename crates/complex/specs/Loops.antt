@@ -3,8 +3,8 @@ use mathlib.Core.Path.{_≡_, refl, sym, ap, _∙_}
 use mathlib.Core.Bool.{Bool, true, _&&_}
 use mathlib.Core.Logic.{⊎-elim}
 use mathlib.Core.List.{List, [], _∷_, _++_}
-use Prim.Native.Nat.{ℕ, zero, suc, _+_, _-_, _≤_, _<_}
-use native.Mathlib.Nat.{le-refl, eq-or-lt-of-le, le-of-suc-le-suc, not-suc-le-zero}
+use Prim.Native.Nat.{ℕ, zero, suc, _+_, _-_, _*_, _≤_, _<_}
+use native.Mathlib.Nat.{le-refl, eq-or-lt-of-le, le-of-suc-le-suc, not-suc-le-zero, add-zero, add-suc, zero-mul, suc-mul}
 use native.Mathlib.Numerals.{add-one}
 use native.Mathlib.Omega.{arith}
 use lib.Dec.{T}
@@ -73,6 +73,22 @@ pub each-same : {A : Type 0} (n : ℕ) (f g : ℕ → A → A) (z : A) → ((k :
 unfolding each
 each-same zero f g z h = refl
 each-same (suc n) f g z h = ap (f n) (each-same n f g z (λ k l. h k (omega arith))) ∙ h n (le-refl (suc n))
+
+pub each-agree : {A : Type 0} (n : ℕ) (f g : ℕ → A → A) (z : A) → ((k : ℕ) (a : A) → k < n → f k a ≡ g k a) → each n f z ≡ each n g z
+each-agree n f g z h = each-same n f g z (λ k l. h k (each k g z) l)
+
+-- ---- a loop after a loop, and a loop in a loop, are one
+
+pub each-append : {A : Type 0} (n m : ℕ) (h : ℕ → A → A) (z : A) → each (n + m) h z ≡ each m (λ k. h (n + k)) (each n h z)
+unfolding each
+each-append n zero h z = ap (λ (k : ℕ). each k h z) (add-zero n)
+each-append n (suc m) h z = ap (λ (k : ℕ). each k h z) (add-suc n m) ∙ ap (h (n + m)) (each-append n m h z)
+
+pub each-each : {A : Type 0} (n m : ℕ) (h : ℕ → A → A) (z : A) → each n (λ i y. each m (λ j. h (i * m + j)) y) z ≡ each (n * m) h z
+unfolding each
+each-each zero m h z = ap (λ (k : ℕ). each k h z) (sym (zero-mul m))
+each-each (suc n) m h z =
+    ap (each m (λ j. h (n * m + j))) (each-each n m h z) ∙ sym (each-append (n * m) m h z) ∙ ap (λ (k : ℕ). each k h z) (sym (suc-mul n m))
 
 -- ---- a test of every number below n
 

@@ -7,11 +7,11 @@ use native.Mathlib.Nat.{le-refl, add-zero, add-suc, zero-mul, suc-mul, add-mul, 
 use native.Mathlib.Numerals.{add-one}
 use native.Mathlib.Omega.{arith}
 use lib.ListN.{length, take, drop, length-append}
-use lib.Seq.{take-at, drop-at, drop-drop, drop-length}
+use lib.Seq.{take-at, drop-at, drop-drop}
 use lib.Ieee.{Float}
 use Rattle.complex.specs.Loops.{each}
-use Rattle.complex.specs.Parts.{put}
-use Rattle.complex.specs.Numbers.{count, at, store, numbers, length-store, at-store-same, at-store-other, each-length, each-apart, each-at, ext-at, at-left, at-right, length-numbers, at-numbers}
+use Rattle.complex.specs.Parts.{put, front-all}
+use Rattle.complex.specs.Numbers.{count, at, store, numbers, length-store, at-store-same, at-store-other, each-length, each-apart, each-at, ext-at, at-left, at-right, length-numbers, at-numbers, numbers-same}
 use Rattle.complex.specs.declared.Complex.{Complex}
 
 -- the lists f 0, f 1, .. f (n - 1), one after the other: nested `rows` over `numbers` is what nested loops write
@@ -26,22 +26,32 @@ column high f c xs = each high (λ r ys. store ys (c * high + r) (f r c)) xs
 unfoldable pub matrix : ℕ → ℕ → (ℕ → ℕ → Complex) → List Float → List Float
 matrix high wide f xs = each wide (column high f) xs
 
--- ---- places: (r, c) is below wide * high, and two places that are equal are of one row and one column
+-- ---- places: (r, c) is below wide * high; its row and column are the remainder and the quotient, so places that are equal are of one row and one column
 
 pub cell-below : (high wide c r : ℕ) → r < high → c < wide → c * high + r < wide * high
 cell-below high wide c r hr hc = omega (arith, mul-le-mul-right high hc)
 
+pub remainder : (high c r : ℕ) → r < high → (c * high + r) % high ≡ r
+remainder high c r h = mul-add-mod-self-right c high r ∙ mod-eq-of-lt h
+
+pub quotient : (high c r : ℕ) → r < high → (c * high + r) / high ≡ c
+quotient high c r h = mul-add-div-right (omega arith) c r ∙ ap (λ k. c + k) (div-eq-of-lt h) ∙ add-zero c
+
 pub cell-row : (high c r c′ r′ : ℕ) → r < high → r′ < high → c * high + r ≡ c′ * high + r′ → r ≡ r′
-cell-row high c r c′ r′ h h′ e = sym (rem c r h) ∙ ap (λ k. k % high) e ∙ rem c′ r′ h′
-  where
-    rem : (c r : ℕ) → r < high → (c * high + r) % high ≡ r
-    rem c r h = mul-add-mod-self-right c high r ∙ mod-eq-of-lt h
+cell-row high c r c′ r′ h h′ e = sym (remainder high c r h) ∙ ap (λ k. k % high) e ∙ remainder high c′ r′ h′
 
 pub cell-column : (high c r c′ r′ : ℕ) → r < high → r′ < high → c * high + r ≡ c′ * high + r′ → c ≡ c′
-cell-column high c r c′ r′ h h′ e = sym (quo c r h) ∙ ap (λ k. k / high) e ∙ quo c′ r′ h′
+cell-column high c r c′ r′ h h′ e = sym (quotient high c r h) ∙ ap (λ k. k / high) e ∙ quotient high c′ r′ h′
+
+-- what holds of each place (r, c) holds of each number below wide * high
+pub by-cells : (wide high : ℕ) (P : ℕ → Type 0) → ((c r : ℕ) → c < wide → r < high → P (c * high + r)) → (k : ℕ) → k < wide * high → P k
+by-cells wide high P h k l =
+    let some : 0 < high = positive high l in
+    rw div-add-mod' at (h (k / high) (k % high) (div-lt-iff-lt-mul some .1 l) (mod-lt k some))
   where
-    quo : (c r : ℕ) → r < high → (c * high + r) / high ≡ c
-    quo c r h = mul-add-div-right (omega arith) c r ∙ ap (λ k. c + k) (div-eq-of-lt h) ∙ add-zero c
+    positive : (m : ℕ) → k < wide * m → 0 < m
+    positive zero l = absurd (omega arith)
+    positive (suc m) l = omega arith
 
 -- ---- the elements of a matrix
 
@@ -91,21 +101,11 @@ module _ (m : ℕ) (f : ℕ → List Float) (len : (c : ℕ) → length (f c) �
 -- a matrix that fills its list is rows of numbers, whatever the list held
 pub matrix-rows : (high wide : ℕ) (f : ℕ → ℕ → Complex) (xs : List Float) → length xs ≡ 2 * (wide * high)
     → matrix high wide f xs ≡ rows wide (λ c. numbers high (λ r. f r c))
-matrix-rows high wide f xs e = ext-at (wide * high) _ _ (length-matrix high wide f xs ∙ e) (length-rows high _ (λ c. length-numbers high (λ r. f r c)) wide) (λ k h.
-    at-cell k (k / high) (k % high) (sym (div-add-mod' k high)) (div-lt-iff-lt-mul (some k h) .1 h) (mod-lt k (some k h)))
-  where
-    some : (k : ℕ) → k < wide * high → 0 < high
-    some k h = positive high h
-      where
-        positive : (m : ℕ) → k < wide * m → 0 < m
-        positive zero l = absurd (omega arith)
-        positive (suc m) l = omega arith
-
-    at-cell : (k c r : ℕ) → k ≡ c * high + r → c < wide → r < high → at (matrix high wide f xs) k ≡ at (rows wide (λ c. numbers high (λ r. f r c))) k
-    at-cell k c r q hc hr =
-        rw q
-        (at-matrix high wide f xs r c hr hc (omega arith)
-        ∙ sym (at-rows high _ (λ c. length-numbers high (λ r. f r c)) wide c r hc hr ∙ at-numbers high (λ r. f r c) r hr))
+matrix-rows high wide f xs e =
+    ext-at (wide * high) _ _ (length-matrix high wide f xs ∙ e) (length-rows high _ (λ c. length-numbers high (λ r. f r c)) wide)
+    (by-cells wide high (λ k. at (matrix high wide f xs) k ≡ at (rows wide (λ c. numbers high (λ r. f r c))) k)
+    (λ c r hc hr. at-matrix high wide f xs r c hr hc (omega arith)
+    ∙ sym (at-rows high _ (λ c. length-numbers high (λ r. f r c)) wide c r hc hr ∙ at-numbers high (λ r. f r c) r hr)))
 
 -- ---- rows that agree below n, rows of rows, and rows of numbers
 
@@ -135,6 +135,11 @@ pub rows-numbers : (n m : ℕ) (f : ℕ → Complex) → rows n (λ i. numbers m
 rows-numbers n m f =
     rows-same n _ _ (λ i _. numbers-one (λ j. f (i * m + j)) m) ∙ rows-rows n m (λ k. f k .re ∷ f k .im ∷ []) ∙ sym (numbers-one f (n * m))
 
+pub numbers-flat : (n m : ℕ) (f : ℕ → ℕ → Complex) → numbers (n * m) (λ k. f (k / m) (k % m)) ≡ rows n (λ r. numbers m (λ c. f r c))
+numbers-flat n m f =
+    sym (rows-numbers n m (λ k. f (k / m) (k % m)))
+    ∙ rows-same n _ _ (λ r _. numbers-same m _ _ (λ c l. rw (quotient m r c l, remainder m r c l)))
+
 -- ---- a list filled by blocks of w floats each from the front: what lending one block after the other leaves
 
 pub block-none : (f : ℕ → List Float) (o : List Float) → o ≡ rows 0 f ++ drop 0 o
@@ -160,4 +165,4 @@ module _ (w : ℕ) (f : ℕ → List Float) (len : (c : ℕ) → length (f c) �
       ∙ ap₂ (λ (k m : ℕ). rows k f ++ drop m o) (sym (add-one c)) (sym s)
 
   pub block-all : (n : ℕ) (o : List Float) → length o ≡ n * w → rows n f ++ drop (n * w) o ≡ rows n f
-  block-all n o h = ap (λ (k : ℕ). rows n f ++ drop k o) (sym h) ∙ ap (λ (ys : List Float). rows n f ++ ys) (drop-length o) ∙ append-nil (rows n f)
+  block-all n o h = front-all (n * w) (rows n f) o (sym h)

@@ -6,7 +6,7 @@ use Prim.Native.Nat.{ℕ, zero, suc, _+_, _-_, _*_, _/_, _%_, _≤_, _<_}
 use native.Mathlib.Nat.{le-refl, eq-or-lt-of-le, not-suc-le-zero, le-of-suc-le-suc}
 use native.Mathlib.Omega.{arith}
 use lib.ListN.{length, getD, set, take, drop, length-set, length-append, List·getD-append}
-use lib.Seq.{ext-getD, getD-set-same, getD-set-other, getD-append-add, getD-take, getD-drop}
+use lib.Seq.{ext-getD, getD-set-same, getD-set-other, getD-append-add, getD-take, getD-drop, take-set-le, length-take-le}
 use lib.Ieee.{Float, nan}
 use Rattle.complex.specs.Loops.{each, each-keeps, each-same}
 use Rattle.complex.specs.Parts.{part}
@@ -52,6 +52,11 @@ at-store-other xs j k z h i = record {
   re = (getD-set-other (set xs (2 * j) (z .re)) (2 * j + 1) (2 * k) (z .im) nan (omega arith) ∙ getD-set-other xs (2 * j) (2 * k) (z .re) nan (omega arith)) i;
   im = (getD-set-other (set xs (2 * j) (z .re)) (2 * j + 1) (2 * k + 1) (z .im) nan (omega arith) ∙ getD-set-other xs (2 * j) (2 * k + 1) (z .re) nan (omega arith)) i;
 }
+
+-- the front of the list is as it was
+pub take-store : (e k : ℕ) (z : Complex) (xs : List Float) → e ≤ 2 * k → take e (store xs k z) ≡ take e xs
+unfolding store
+take-store e k z xs h = take-set-le e _ (2 * k + 1) (z .im) (omega arith) ∙ take-set-le e xs (2 * k) (z .re) h
 
 -- ---- loops that store
 
@@ -160,6 +165,17 @@ pub stores-numbers : (n : ℕ) (f : ℕ → Complex) (xs : List Float) → lengt
 stores-numbers n f xs e =
     ext-at n _ (numbers n f) (length-stores n (λ k. k) f xs ∙ e) (length-numbers n f)
     (λ k h. at-stores n (λ k. k) f xs k h (omega arith) (λ i a b. omega arith) ∙ sym (at-numbers n f k h))
+
+-- and over the first n numbers of a longer list
+pub take-stores : (n : ℕ) (f : ℕ → Complex) (xs : List Float) → n ≤ count xs → take (2 * n) (stores n (λ k. k) f xs) ≡ numbers n f
+take-stores n f xs h =
+    let e : length (stores n (λ k. k) f xs) ≡ length xs = length-stores n (λ k. k) f xs in
+    ext-at n _ (numbers n f) (length-take-le (2 * n) _ (omega arith)) (length-numbers n f)
+    (λ k l. at-take (2 * n) k _ (omega arith) ∙ at-stores n (λ k. k) f xs k l (omega arith) (λ i a b. omega arith) ∙ sym (at-numbers n f k l))
+
+-- number `to` + k, where n numbers were stored from `to` on
+pub at-area : (n to : ℕ) (f : ℕ → Complex) (xs : List Float) (k : ℕ) → to + n ≤ count xs → k < n → at (stores n (λ k. to + k) f xs) (to + k) ≡ f k
+at-area n to f xs k room h = at-stores n (λ k. to + k) f xs k h (omega arith) (λ i a b. omega arith)
 
 -- numbers that agree below n
 pub numbers-same : (n : ℕ) (f g : ℕ → Complex) → ((k : ℕ) → k < n → f k ≡ g k) → numbers n f ≡ numbers n g

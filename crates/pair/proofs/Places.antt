@@ -1,15 +1,15 @@
 -- Blocks stored at places that differ leave each element at its place. No contract cites this file. Assumes nothing.
 use mathlib.Core.Path.{_≡_, sym, _∙_}
 use mathlib.Core.List.{List}
-use Prim.Native.Nat.{ℕ, zero, suc, _+_, _*_, _/_, _%_, _≤_, _<_}
-use native.Mathlib.Nat.{mul-le-mul, mod-lt, div-add-mod', div-lt-iff-lt-mul}
+use Prim.Native.Nat.{ℕ, _+_, _*_, _/_, _%_, _≤_, _<_}
+use native.Mathlib.Nat.{mul-le-mul}
 use native.Mathlib.Omega.{arith}
 use lib.ListN.{length}
 use lib.Ieee.{Float}
 use Rattle.complex.specs.Complex.{conjC}
 use Rattle.complex.specs.Loops.{each}
 use Rattle.complex.specs.Numbers.{count, at, store, numbers, length-numbers, at-numbers, length-stores, at-stores, at-stores-other, each-length, each-apart, each-at, ext-at}
-use Rattle.complex.specs.Matrix.{rows, cell-below, cell-row, cell-column, length-rows, at-rows}
+use Rattle.complex.specs.Matrix.{rows, cell-below, cell-row, cell-column, by-cells, length-rows, at-rows}
 use Rattle.complex.specs.declared.Complex.{Complex}
 use Rattle.model.specs.Pair.{matrixOf, adjointOf}
 use Rattle.pair.specs.Blocks.{blockOf, conjugated, stored, straightPlace, adjointPlace, adjoint, block, line, lines}
@@ -102,16 +102,6 @@ straight-apart bl br a i j b a′ i′ j′ b′ h h′ e =
     let r : a * 2 + i ≡ a′ * 2 + i′ = cell-row (2 * bl) (j * br + b) (a * 2 + i) (j′ * br + b′) (a′ * 2 + i′) (omega arith) (omega arith) e in
     let k : j * br + b ≡ j′ * br + b′ = cell-column (2 * bl) (j * br + b) (a * 2 + i) (j′ * br + b′) (a′ * 2 + i′) (omega arith) (omega arith) e in
     (omega arith, omega arith, cell-column br j b j′ b′ (h .hb) (h′ .hb) k, cell-row br j b j′ b′ (h .hb) (h′ .hb) k)
-
--- a number below n * m is that of a row and a column
-by-cells : (n m : ℕ) (P : ℕ → Type 0) → ((c r : ℕ) → c < n → r < m → P (c * m + r)) → (k : ℕ) → k < n * m → P k
-by-cells n m P h k l =
-    let some : 0 < m = positive m l in
-    rw div-add-mod' at (h (k / m) (k % m) (div-lt-iff-lt-mul some .1 l) (mod-lt k some))
-  where
-    positive : (m : ℕ) → k < n * m → 0 < m
-    positive zero l = absurd (omega arith)
-    positive (suc m) l = omega arith
 
 module _ (bl br : ℕ) (f : ℕ → ℕ → ℕ → ℕ → Complex) where
   column-length : (j b : ℕ) → length (rows bl (λ a. numbers 2 (λ i. f a i j b))) ≡ 2 * (bl * 2)

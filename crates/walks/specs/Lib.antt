@@ -1,4 +1,3 @@
 -- What the functions below the public ones compute, and that it is what the model defines. The contracts of the public functions cite the model alone.
 pub mod Products
-pub mod Areas
 pub mod Steps

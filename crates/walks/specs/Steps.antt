@@ -8,12 +8,12 @@ use borrow.Author.Tests.{le-leb, lt-leb}
 use lib.ListN.{length, take}
 use lib.Ieee.{Float}
 use Rattle.complex.specs.Complex.{addC, mulC, conjC, zeroC}
-use Rattle.complex.specs.Numbers.{count, at, stores, numbers, numbers-same, length-stores}
-use Rattle.complex.specs.Matrix.{rows, rows-same}
+use Rattle.complex.specs.Loops.{each-agree, each-each}
+use Rattle.complex.specs.Numbers.{count, at, stores, numbers, numbers-same, length-stores, at-take, at-area}
+use Rattle.complex.specs.Matrix.{rows, rows-same, quotient, remainder, numbers-flat}
 use Rattle.complex.specs.declared.Complex.{Complex}
 use Rattle.model.specs.Environment.{Env, leftFew, leftInner, leftMany, leftAcross, rightFew, rightInner, rightMany, rightAcross}
 use Rattle.walks.specs.Products.{envOf, plusUnlessZero, pairLeft, cellLeft, fewLeft, innerLeft, manyLeft, pairRight, cellRight, fewRight, innerRight, manyRight}
-use Rattle.walks.specs.Areas.{at-take, at-area, quotient, remainder, numbers-flat, each-agree, each-each}
 
 -- ---- the left environment's sums
 

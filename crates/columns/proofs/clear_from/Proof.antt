@@ -1,13 +1,7 @@
--- Past the part that is lent there is nothing.
-use mathlib.Core.Path.{ap}
-use mathlib.Core.List.{List, _++_, append-nil}
-use Prim.Native.Nat.{_-_}
+-- The part that is lent goes up to the end.
 use native.Mathlib.Omega.{arith}
-use lib.Ieee.{Float}
-use lib.ListN.{length, take, replicate}
-use Rattle.complex.specs.Complex.{zeroF}
-use Rattle.complex.specs.Parts.{length-part}
-use Rattle.columns.proofs.Fill.{past-end}
+use lib.ListN.{length}
+use Rattle.complex.specs.Parts.{length-part, put-end}
 use borrow.Author.Needs.{needs}
 use Rattle.columns.proofs.clear_from.Statement.{statement}
 use Rattle.columns.proofs.clear_from.Tie as tie
@@ -31,7 +25,8 @@ same-length : tie.Need-same-length
 same-length c = search needs
 
 returns : tie.Need-returns
-returns c = let xs = c .before .before .before .before .before .args .w .now in rw (c .before .before .fill-zero .ensures, length-part (c .before .before .before .before .before .args .from) (length xs) xs (c .before .before .before .before .before .pre) (omega arith), past-end (c .before .before .before .before .before .args .from) xs (c .before .before .before .before .before .pre)) (ap (λ (t : List Float). take (c .before .before .before .before .before .args .from) xs ++ t) (append-nil (replicate (length xs - c .before .before .before .before .before .args .from) zeroF)))
+returns c = let xs = c .before .before .before .before .before .args .w .now in
+    rw (c .before .before .fill-zero .ensures, length-part (c .before .before .before .before .before .args .from) (length xs) xs (c .before .before .before .before .before .pre) (omega arith)) (put-end (c .before .before .before .before .before .args .from) xs _ (c .before .before .before .before .before .pre))
 
 pub clear-from-spec : {M : Type 1} → statement M
 clear-from-spec =

@@ -1,11 +1,11 @@
 -- The invariant: the first i floats are +0, the others as they were.
-use mathlib.Core.Path.{_≡_, refl, _∙_}
+use mathlib.Core.Path.{_≡_, refl, ap, _∙_}
 use mathlib.Core.List.{_++_}
-use Prim.Native.Nat.{_≤_, _-_}
+use Prim.Native.Nat.{ℕ, _≤_, _-_}
 use native.Mathlib.Omega.{arith}
 use lib.ListN.{length, drop, replicate, length-set}
 use Rattle.complex.specs.Complex.{zeroF}
-use Rattle.columns.proofs.Fill.{fill-more, fill-all}
+use Rattle.complex.specs.Parts.{fill-more, front-all}
 use Rattle.columns.proofs.fill_zero.Statement.{statement}
 use Rattle.columns.proofs.fill_zero.Tie as tie
 
@@ -37,7 +37,9 @@ same-length : tie.Need-same-length Inv-loop μ-loop
 same-length c = omega arith
 
 returns : tie.Need-returns Inv-loop μ-loop
-returns c = c .before .loop .inv .3 ∙ fill-all (c .before .loop .i) zeroF (c .before .before .args .s .now) (omega arith)
+returns c = let xs = c .before .before .args .s .now in
+    let e : c .before .loop .i ≡ length xs = omega arith in
+    c .before .loop .inv .3 ∙ front-all (c .before .loop .i) (replicate (c .before .loop .i) zeroF) xs e ∙ ap (λ (k : ℕ). replicate k zeroF) e
 
 pub fill-zero-spec : {M : Type 1} → statement M
 fill-zero-spec =

@@ -1,11 +1,11 @@
 -- The invariant: the first i floats are those of from, the others as they were.
-use mathlib.Core.Path.{_≡_, refl, _∙_}
+use mathlib.Core.Path.{_≡_, refl, ap, _∙_}
 use mathlib.Core.List.{_++_}
-use Prim.Native.Nat.{_≤_, _-_}
+use Prim.Native.Nat.{ℕ, _≤_, _-_}
 use native.Mathlib.Omega.{arith}
 use lib.ListN.{length, take, drop, length-set}
 use lib.Ieee.{nan}
-use Rattle.gauge.specs.Copies.{copy-more, copy-all}
+use Rattle.complex.specs.Parts.{copy-more, front-all}
 use Rattle.gauge.proofs.copy_numbers.Statement.{statement}
 use Rattle.gauge.proofs.copy_numbers.Tie as tie
 
@@ -43,7 +43,10 @@ same-length : tie.Need-same-length Inv-loop μ-loop
 same-length c = omega arith
 
 returns : tie.Need-returns Inv-loop μ-loop
-returns c = c .before .loop .inv .3 ∙ copy-all (c .before .loop .i) (c .before .before .args .from .now) (c .before .before .args .to .now) (omega arith)
+returns c = let xs = c .before .before .args .from .now in
+    let ys = c .before .before .args .to .now in
+    let e : c .before .loop .i ≡ length ys = omega arith in
+    c .before .loop .inv .3 ∙ front-all (c .before .loop .i) (take (c .before .loop .i) xs) ys e ∙ ap (λ (k : ℕ). take k xs) e
 
 pub copy-numbers-spec : {M : Type 1} → statement M
 copy-numbers-spec =

@@ -5,8 +5,7 @@ use native.Mathlib.Nat.{le-antisymm}
 use native.Mathlib.Omega.{arith}
 use lib.ListN.{length}
 use Rattle.complex.specs.Loops.{each-none, each-more}
-use Rattle.complex.specs.Numbers.{at, stores, at-stores-other}
-use Rattle.walks.specs.Areas.{take-stores}
+use Rattle.complex.specs.Numbers.{at, stores, at-stores-other, take-stores}
 use Rattle.walks.proofs.copy_down.Statement.{statement}
 use Rattle.walks.proofs.copy_down.Tie as tie
 

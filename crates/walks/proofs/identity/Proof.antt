@@ -9,7 +9,7 @@ use lib.ListN.{length}
 use Rattle.complex.specs.Complex.{zeroC, real, oneF}
 use Rattle.complex.specs.Loops.{each-none, each-more}
 use Rattle.complex.specs.Numbers.{stores, stores-numbers}
-use Rattle.walks.specs.Areas.{numbers-flat}
+use Rattle.complex.specs.Matrix.{numbers-flat}
 use borrow.Author.Needs.{needs}
 use Rattle.walks.proofs.identity.Statement.{statement}
 use Rattle.walks.proofs.identity.Tie as tie
