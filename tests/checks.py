@@ -33,7 +33,7 @@ def folders_are_listed(crates):
 
 
 # Kernels, moves and cuts: their functions have requirements and are reached through the public calls of `chain` alone.
-INTERNAL = {"columns", "jacobi", "svd", "truncation", "qr", "pair", "fills", "gauge", "walks", "born", "sound", "moves", "cutting", "cuts"}
+INTERNAL = {"columns", "jacobi", "svd", "truncation", "qr", "pair", "fills", "gauge", "walks", "born", "sound", "moves", "cutting", "cuts", "environments", "outcomes"}
 ABOVE_INTERNAL = INTERNAL | {"chain"}
 
 # Access by index is the one thing that a public function of a leaf may require.

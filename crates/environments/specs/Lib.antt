@@ -1,0 +1,2 @@
+-- What one step of a walk needs of the chain, and how the steps follow each other.
+pub mod Walk
