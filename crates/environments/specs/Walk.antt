@@ -2,7 +2,7 @@
 use Prim.Native.Nat.{ℕ, _+_, _-_, _*_, _≤_, _<_}
 use mathlib.Core.Path.{_≡_, sym, ap, _∙_}
 use mathlib.Core.List.{List}
-use native.Mathlib.Nat.{mul-le-mul, mul-le-mul-right}
+use native.Mathlib.Nat.{mul-le-mul-right}
 use native.Mathlib.Omega.{arith}
 use lib.Dec.{T}
 use lib.ListN.{length, take}
@@ -10,10 +10,9 @@ use lib.Ieee.{Float}
 use Rattle.complex.specs.Loops.{each, each-none, each-more, between, between-none, between-more}
 use Rattle.model.specs.declared.Chain.{Chain}
 use Rattle.model.specs.Chain.{bondLeft, bondRight}
-use Rattle.model.specs.Slots.{State, held, lefts, rights, siteAt, slotRoom, storeRoom, workRoom}
+use Rattle.model.specs.Slots.{held, siteAt, slotRoom, storeRoom, workRoom}
 use Rattle.model.specs.Environment.{Env, identityEnv, leftAcross, rightAcross, leftStep, rightStep, leftEnv, rightEnv}
 use Rattle.model.specs.Sound.{sound}
-use Rattle.model.specs.Statements.Soundness.{Sound}
 use Rattle.model.specs.Laws.SoundFacts.{sound-facts}
 use Rattle.walks.specs.Products.{envOf}
 use Rattle.walks.specs.Steps.{left-env, right-env}

@@ -1,6 +1,5 @@
 -- The site is its slot of the store, and the environment's room is within the work slice.
-use Prim.Native.Nat.{_+_, _-_, _*_, _≤_}
-use mathlib.Core.Path.{_≡_}
+use Prim.Native.Nat.{_+_, _*_, _≤_}
 use native.Mathlib.Nat.{mul-le-mul}
 use native.Mathlib.Omega.{arith}
 use Rattle.complex.specs.Parts.{length-part}

@@ -1,0 +1,36 @@
+use borrow.Author.Needs.{needs}
+use Rattle.cuts.proofs.record_cut.Statement.{statement}
+use Rattle.cuts.proofs.record_cut.Tie as tie
+
+cast-out : tie.Need-cast-out
+cast-out c = search needs
+
+add-out : tie.Need-add-out
+add-out c = search needs
+
+element-write-out : tie.Need-element-write-out
+element-write-out c = search needs
+
+cast-out-2 : tie.Need-cast-out-2
+cast-out-2 c = search needs
+
+element-write-out-2 : tie.Need-element-write-out-2
+element-write-out-2 c = search needs
+
+larger-requires : tie.Need-larger-requires
+larger-requires c κs = search needs
+
+returns : tie.Need-returns
+returns c = rw (c .larger .ensures)
+
+pub record-cut-spec : {M : Type 1} → statement M
+record-cut-spec =
+    tie.close
+    (tie.spec
+    cast-out
+    add-out
+    element-write-out
+    cast-out-2
+    element-write-out-2
+    larger-requires
+    returns)

@@ -1,0 +1,136 @@
+-- An attempt and a cut by their branches, and that each leaves the chain ready for the next.
+use Prim.Native.Nat.{ℕ, zero, suc, _+_, _-_, _^_, _<_}
+use mathlib.Core.Path.{_≡_, sym, ap, _∙_, subst}
+use mathlib.Core.Logic.{_≢_}
+use mathlib.Core.Bool.{Bool, true, false, not, _&&_, cond}
+use mathlib.Core.List.{List, map}
+use native.Mathlib.Omega.{arith}
+use lib.Dec.{ltb}
+use lib.ListN.{length}
+use lib.Ieee.{Float}
+use Rattle.complex.specs.declared.Complex.{Complex}
+use Rattle.model.specs.declared.Chain.{Chain}
+use Rattle.model.specs.declared.Center.the-variants.{At}
+use Rattle.model.specs.declared.WeightSide.{WeightSide}
+use Rattle.model.specs.declared.WeightSide.the-variants.{Right}
+use Rattle.model.specs.Chain.{withCenter, siteOf, qubitAt}
+use Rattle.model.specs.Slots.{State, held, lefts, rights, siteAt, withSite}
+use Rattle.model.specs.Svd.{Svd, values}
+use Rattle.model.specs.Truncation.{workspace}
+use Rattle.model.specs.Pair.{pairSvd, leftSite, rightSite}
+use Rattle.model.specs.Moves.{Prepared, prepared, preparedOn, established}
+use Rattle.model.specs.Cut.{Tried, tried, Ran, ran, weightSite, cutWith, attempt, adjacent}
+use Rattle.model.specs.Routing.{downTo, swapStep, stepped}
+use Rattle.model.specs.Statements.Table.{keepsCentre, preparedFor, pairOf}
+use Rattle.model.specs.Statements.Soundness.{Sound}
+use Rattle.model.specs.Laws.MoveLaws.{established-narrowed}
+use Rattle.model.specs.Laws.SoundKept.{Keeps, Inside, narrowed-keeps, prepared-narrowed, attempt-keeps, adjacent-keeps, stepped-keeps, runSteps-keeps}
+use Rattle.cutting.specs.declared.Kept.{Kept}
+use Rattle.cutting.specs.Kept.{keptOf, nanIn}
+use Rattle.moves.specs.Ready.{Ready}
+use Rattle.cuts.specs.Pair.{recordedCut}
+use Rattle.cuts.specs.Runs.{swapsDown}
+
+-- ---- what is left ready
+
+pub ready-keeps : (c r : Chain) (store out work room : List Float) → Ready c store work → Keeps c r → length out ≡ length store → length room ≡ length work → Ready r out room
+ready-keeps c r store out work room h x l m = record {
+  sound = x .sound;
+  store-room = rw (x .qubits, x .cap, l) (h .store-room);
+  work-room = rw (x .cap, m) (h .work-room);
+}
+
+module _ (c r : Chain) (store out : List Float) (h : Sound c) (k : ℕ) (inside : k + 1 < c .«num_qubits») where
+  pub prepared-keeps : (side : WeightSide) → keepsCentre k (held c store) ≡ true → prepared side (held r out) ≡ preparedOn k (c .center) (held c store) → Keeps c r
+  prepared-keeps side e f =
+      let g : preparedFor k (held c store) ≡ prepared side (held r out) = ap (λ (b : Bool). cond b (preparedOn k (c .center) (held c store)) (prepared Right (held c store))) e ∙ sym f in
+      subst (λ (p : Prepared). Keeps c (p .state .chain)) g (narrowed-keeps (prepared-narrowed k (held c store) h inside))
+
+  pub established-keeps : held r out ≡ established k (held c store) → Keeps c r
+  established-keeps e = subst (λ (t : State). Keeps c (t .chain)) (sym e) (narrowed-keeps (established-narrowed k (held c store) h (omega arith)))
+
+  pub tried-keeps : (gate : List (List Complex)) (n : ℕ) (b : Bool) → tried n b (held r out) ≡ attempt gate k (held c store) → Keeps c r
+  tried-keeps gate n b e = subst (λ (t : Tried). Keeps c (t .state .chain)) (sym e) (attempt-keeps gate k (held c store) h inside)
+
+  pub ran-keeps : (gate : List (List Complex)) (n : ℕ) → ran n (held r out) ≡ adjacent gate k (held c store) → Keeps c r
+  ran-keeps gate n e = subst (λ (t : Ran). Keeps c (t .state .chain)) (sym e) (adjacent-keeps gate k (held c store) h inside)
+
+  pub step-keeps : (n : ℕ) → ran n (held r out) ≡ stepped (swapStep k) (held c store) → Keeps c r
+  step-keeps n e = subst (λ (t : Ran). Keeps c (t .state .chain)) (sym e) (stepped-keeps (swapStep k) (held c store) h inside)
+
+inside-swaps : (n near m : ℕ) → near + m + 1 < n → Inside n (map swapStep (downTo near m))
+inside-swaps n near zero l = tt
+inside-swaps n near (suc m) l = (omega arith, inside-swaps n near m (omega arith))
+
+pub swaps-keep : (c r : Chain) (store out : List Float) → Sound c → (near m n : ℕ) → near + m + 1 < c .«num_qubits» → ran n (held r out) ≡ swapsDown near m (held c store) → Keeps c r
+unfolding swapsDown
+swaps-keep c r store out h near m n l e = subst (λ (t : Ran). Keeps c (t .state .chain)) (sym e) (runSteps-keeps (map swapStep (downTo near m)) (held c store) h (inside-swaps (c .«num_qubits») near m l))
+
+-- two qubits stand on two sites
+pub sites-two : (c : Chain) → Sound c → (q0 q1 : ℕ) → q0 < c .«num_qubits» → q1 < c .«num_qubits» → q0 ≢ q1 → siteOf c q0 ≢ siteOf c q1
+sites-two c h q0 q1 l m two e = two (sym (h .sites .undone q0 l) ∙ ap (λ (k : ℕ). qubitAt c k) e ∙ h .sites .undone q1 m)
+
+-- ---- one cut, of the bonds bl, mid and br
+
+module _ (gate : List (List Complex)) (k : ℕ) (s : State) (bl mid br : ℕ) (el : bl ≡ lefts s k) (em : mid ≡ rights s k) (er : br ≡ rights s (k + 1)) where
+  abbrev pairIn : Svd
+  pairIn = pairSvd (s .chain .«norm_clamp_min») bl mid br gate (siteAt s k) (siteAt s (k + 1))
+
+  pair-in : pairIn ≡ pairOf gate k s
+  pair-in = rw (el, em, er)
+
+  module _ (maintained : Bool) (side : WeightSide) (nan : Bool) (e : nan ≡ nanIn pairIn) where
+    pub cut-nan : nan ≡ true → tried 7 false s ≡ cutWith gate k maintained (prepared side s)
+    unfolding cutWith
+    cut-nan z = let y : nanIn (pairOf gate k s) ≡ true = ap nanIn (sym pair-in) ∙ sym e ∙ z in rw y
+
+    module _ (z : nan ≡ false) (kept : Kept) (d : Svd) (f : d ≡ pairIn) (g : kept ≡ keptOf (s .chain .«svd_epsilon») (s .chain .«max_bond_dim») (s .chain .«truncation_discarded») (values d)) where
+      not-nan : nanIn (pairOf gate k s) ≡ false
+      not-nan = ap nanIn (sym pair-in) ∙ sym e ∙ z
+
+      kept-of : kept ≡ keptOf (s .chain .«svd_epsilon») (s .chain .«max_bond_dim») (s .chain .«truncation_discarded») (values (pairOf gate k s))
+      kept-of = g ∙ ap (λ (x : Svd). keptOf (s .chain .«svd_epsilon») (s .chain .«max_bond_dim») (s .chain .«truncation_discarded») (values x)) (f ∙ pair-in)
+
+      pub cut-again : not maintained && kept .resolvable ≡ true → tried 0 true s ≡ cutWith gate k maintained (prepared side s)
+      unfolding cutWith
+      cut-again t = let y = ap (λ (x : Kept). not maintained && x .resolvable) (sym kept-of) ∙ t in rw (not-nan, y)
+
+      pub cut-stored : not maintained && kept .resolvable ≡ false
+          → tried 0 false
+          (held (withCenter (recordedCut (s .chain) k (kept .chi) (kept .discarded)) (cond maintained (At (weightSite side k)) (s .chain .center)))
+          (withSite (s .chain .«max_bond_dim») (k + 1) (rightSite side (kept .chi) br d) (withSite (s .chain .«max_bond_dim») k (leftSite side bl (kept .chi) d) (s .store))))
+          ≡ cutWith gate k maintained (prepared side s)
+      unfolding cutWith
+      cut-stored t =
+          let y = ap (λ (x : Kept). not maintained && x .resolvable) (sym kept-of) ∙ t in
+          let w : d ≡ pairOf gate k s = f ∙ pair-in in
+          rw (not-nan, y, kept-of, w, el, er)
+
+-- ---- one attempt
+
+module _ (gate : List (List Complex)) (k : ℕ) (s : State) where
+  abbrev above : Bool
+  above = ltb (2 ^ s .chain .«workspace_exponent») (workspace (lefts s k) (rights s k) (rights s (k + 1)))
+
+  pub attempt-above : above ≡ true → tried 6 false s ≡ attempt gate k s
+  unfolding attempt
+  attempt-above e = rw e
+
+  pub attempt-kept : (p : Prepared) (t : Tried) → above ≡ false → keepsCentre k s ≡ true → p ≡ preparedOn k (s .chain .center) s → t ≡ cutWith gate k true p → t ≡ attempt gate k s
+  unfolding attempt
+  attempt-kept p t a e f g = rw (a, e) (g ∙ ap (cutWith gate k true) f)
+
+  pub attempt-bare : (t : Tried) → above ≡ false → keepsCentre k s ≡ false → t ≡ cutWith gate k false (prepared Right s) → t ≡ attempt gate k s
+  unfolding attempt
+  attempt-bare t a e g = rw (a, e) g
+
+  -- ---- made again at most once
+
+  module _ (t : Tried) (e : t ≡ attempt gate k s) where
+    pub adjacent-once : t .again ≡ false → ran (t .refused) (t .state) ≡ adjacent gate k s
+    unfolding adjacent
+    adjacent-once z = rw (← e, z)
+
+    pub adjacent-twice : (u : Tried) → t .again ≡ true → u ≡ attempt gate k (established k (t .state)) → ran (u .refused) (u .state) ≡ adjacent gate k s
+    unfolding adjacent
+    adjacent-twice u z f = rw (← e, z, ← f)

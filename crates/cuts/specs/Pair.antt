@@ -1,0 +1,55 @@
+-- A pair of neighbours with room to cut it, and the record after the cut.
+use Prim.Native.Nat.{ℕ, _+_, _*_, _%_, _^_, _≤_, max}
+use mathlib.Core.Path.{_≡_, _∙_}
+use mathlib.Core.List.{List}
+use native.Mathlib.Nat.{mul-le-mul, mod-eq-of-lt, pow-le-pow-right}
+use native.Mathlib.Omega.{arith}
+use lib.ListN.{length}
+use lib.Ieee.{Float}
+use Rattle.complex.specs.Numbers.{count}
+use Rattle.complex.specs.Parts.{put}
+use Rattle.model.specs.declared.Chain.{Chain}
+use Rattle.model.specs.Chain.{withBond, withTruncation}
+use Rattle.model.specs.Slots.{slotRoom, slotOf}
+use Rattle.cutting.specs.Shape.{shapeOf, room, room-fits}
+use Rattle.moves.specs.Steps.{Pair, first-slot, second-slot, second-after}
+
+-- the bond, the widest bond so far, and the weight discarded so far
+abbrev pub recordedCut : Chain → ℕ → ℕ → Float → Chain
+recordedCut c k chi discarded = withTruncation (withBond c k chi) (max (c .«bond_high_water») chi) discarded
+
+-- a shift of 1, as the machine has it
+pub shifted : (e : ℕ) → e ≤ 63 → 1 * 2 ^ e % 18446744073709551616 ≡ 2 ^ e
+shifted e l =
+    let m : 2 ^ e ≤ 2 ^ 63 = pow-le-pow-right {n = 2} (omega arith) l in
+    mod-eq-of-lt (omega arith) ∙ omega arith
+
+module _ (d k bl mid br : ℕ) (store work : List Float) (p : Pair d k bl mid br store work) where
+  -- another bond within the cap between them, and a work slice of the same length
+  pub pair-with : (after : List Float) (bond : ℕ) → length after ≡ length work → 1 ≤ bond → bond ≤ d → Pair d k bl bond br store after
+  pair-with after bond e l m = record {
+    cap = p .cap;
+    place = p .place;
+    left = p .left;
+    middle = record { least = l; most = m };
+    right = p .right;
+    store-room = p .store-room;
+    work-room = rw e (p .work-room);
+  }
+
+  pub work-enough : room (shapeOf bl br) ≤ length work
+  work-enough = omega (arith, room-fits bl br d (p .left .most) (p .right .most), p .work-room)
+
+  -- the sites are within their slots
+  pub left-numbers : bl * (2 * mid) ≤ count (slotOf d k store)
+  left-numbers = omega (arith, first-slot d k store (p .store-room), mul-le-mul (p .left .most) (p .middle .most))
+
+  pub right-numbers : mid * (2 * br) ≤ count (slotOf d (k + 1) store)
+  right-numbers = omega (arith, second-slot d k store (p .store-room), mul-le-mul (p .middle .most) (p .right .most))
+
+  pub left-fits : 2 * (2 * bl * mid) ≤ length (slotOf d k store)
+  left-fits = omega (arith, first-slot d k store (p .store-room), mul-le-mul (p .left .most) (p .middle .most))
+
+  -- the right one also after the left one is written
+  pub right-fits : (ys : List Float) → length ys ≡ length (slotOf d k store) → 2 * (mid * (2 * br)) ≤ length (slotOf d (k + 1) (put (k * slotRoom d) (k * slotRoom d + slotRoom d) store ys))
+  right-fits ys l = omega (arith, second-after d k store (p .store-room) ys l, mul-le-mul (p .middle .most) (p .right .most))

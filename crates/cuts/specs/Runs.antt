@@ -1,0 +1,116 @@
+-- A run by what is left of it: the swaps down to the near site, and then the gate.
+use Prim.Native.Nat.{ℕ, suc, _+_, _-_, _≤_, _<_, min, max}
+use mathlib.Core.Path.{_≡_, refl, sym, ap, _∙_}
+use mathlib.Core.Bool.{Bool, true, false, cond}
+use mathlib.Core.List.{List, [], _∷_, _++_, map}
+use native.Mathlib.Omega.{arith}
+use lib.Dec.{eqb, ltb}
+use borrow.Author.Tests.{eq-eqb, ne-eqb, eqb-true, lt-ltb, le-ltb}
+use Rattle.complex.specs.declared.Complex.{Complex}
+use Rattle.gates.specs.Gate.{swapGateQubits}
+use Rattle.gates.specs.Named.{matrixOf}
+use Rattle.gates.specs.declared.NamedGate.the-variants.{Swap}
+use Rattle.model.specs.Chain.{siteOf}
+use Rattle.model.specs.Slots.{State, held}
+use Rattle.model.specs.Cut.{Ran, ran, adjacent}
+use Rattle.model.specs.Routing.{Step, relabelled, downTo, swapStep, gateStep, follow, stepped, runSteps, gateRun}
+
+-- the swaps at near + n, .., near + 1
+unfoldable pub swapsDown : ℕ → ℕ → State → Ran
+swapsDown near n s = runSteps (map swapStep (downTo near n)) s
+
+-- and then the gate at near
+unfoldable pub routedGate : List (List Complex) → ℕ → ℕ → State → Ran
+routedGate gate near n s = runSteps (map swapStep (downTo near n) ++ (gateStep gate near ∷ [])) s
+
+-- ---- what follows a run
+
+pub follow-on : (r : Ran) (f : State → Ran) → r .refused ≡ 0 → follow r f ≡ f (r .state)
+follow-on r f e = rw (eq-eqb _ _ e)
+
+pub follow-out : (r : Ran) (f : State → Ran) → (r .refused ≡ 0 → ⊥) → follow r f ≡ r
+follow-out r f e = rw (ne-eqb _ _ e)
+
+-- nothing follows
+follow-none : (r : Ran) → follow r (λ t. ran 0 t) ≡ r
+follow-none r = pick (eqb (r .refused) 0) refl
+  where
+    pick : (b : Bool) → eqb (r .refused) 0 ≡ b → cond b (ran 0 (r .state)) r ≡ r
+    pick true e = ap (λ (n : ℕ). ran n (r .state)) (sym (eqb-true (r .refused) 0 e))
+    pick false e = refl
+
+follow-then : (r : Ran) (f g : State → Ran) → follow (follow r f) g ≡ follow r (λ t. follow (f t) g)
+follow-then r f g = pick (eqb (r .refused) 0) refl
+  where
+    pick : (b : Bool) → eqb (r .refused) 0 ≡ b → follow (cond b (f (r .state)) r) g ≡ cond b (follow (f (r .state)) g) r
+    pick true e = refl
+    pick false e = ap (λ (b : Bool). cond b (g (r .state)) r) e
+
+-- ---- one swap: the cut, then the labels
+
+module _ (k : ℕ) (s : State) (r : Ran) (e : r ≡ adjacent (matrixOf Swap) k s) where
+  pub step-out : (r .refused ≡ 0 → ⊥) → r ≡ stepped (swapStep k) s
+  unfolding stepped
+  step-out z = sym (ap (λ (t : Ran). follow t (λ u. ran 0 (held (relabelled k (u .chain)) (u .store)))) (sym e) ∙ follow-out r (λ u. ran 0 (held (relabelled k (u .chain)) (u .store))) z)
+
+  pub step-on : r .refused ≡ 0 → ran 0 (held (relabelled k (r .state .chain)) (r .state .store)) ≡ stepped (swapStep k) s
+  unfolding stepped
+  step-on z = sym (ap (λ (t : Ran). follow t (λ u. ran 0 (held (relabelled k (u .chain)) (u .store)))) (sym e) ∙ follow-on r (λ u. ran 0 (held (relabelled k (u .chain)) (u .store))) z)
+
+-- ---- the swaps
+
+module _ (near at : ℕ) (s : State) where
+  swaps-turn : near + 1 < at → swapsDown near (at - (near + 1)) s ≡ follow (stepped (swapStep (at - 1)) s) (swapsDown near (at - 1 - (near + 1)))
+  unfolding swapsDown runSteps
+  swaps-turn l =
+      let e : at - (near + 1) ≡ suc (at - 1 - (near + 1)) = omega arith in
+      let f : near + suc (at - 1 - (near + 1)) ≡ at - 1 = omega arith in
+      rw e (ap (λ (k : ℕ). follow (stepped (swapStep k) s) (swapsDown near (at - 1 - (near + 1)))) f)
+
+  pub swaps-done : at ≤ near + 1 → swapsDown near (at - (near + 1)) s ≡ ran 0 s
+  unfolding swapsDown runSteps
+  swaps-done l = let e : at - (near + 1) ≡ 0 = omega arith in rw e
+
+  -- a turn of the loop: a step that left x, and the rest
+  pub swaps-on : (x : Ran) → near + 1 < at → x ≡ stepped (swapStep (at - 1)) s → x .refused ≡ 0 → swapsDown near (at - (near + 1)) s ≡ swapsDown near (at - 1 - (near + 1)) (x .state)
+  swaps-on x l e z = swaps-turn l ∙ ap (λ (r : Ran). follow r (swapsDown near (at - 1 - (near + 1)))) (sym e) ∙ follow-on x (swapsDown near (at - 1 - (near + 1))) z
+
+  pub swaps-out : (x : Ran) → near + 1 < at → x ≡ stepped (swapStep (at - 1)) s → (x .refused ≡ 0 → ⊥) → swapsDown near (at - (near + 1)) s ≡ x
+  swaps-out x l e z = swaps-turn l ∙ ap (λ (r : Ran). follow r (swapsDown near (at - 1 - (near + 1)))) (sym e) ∙ follow-out x (swapsDown near (at - 1 - (near + 1))) z
+
+-- ---- then the gate
+
+run-then : (xs ys : List Step) (s : State) → runSteps (xs ++ ys) s ≡ follow (runSteps xs s) (runSteps ys)
+unfolding runSteps
+run-then [] ys s = refl
+run-then (x ∷ xs) ys s =
+    ap (λ (t : Ran). cond (eqb (stepped x s .refused) 0) t (stepped x s)) (run-then xs ys (stepped x s .state)) ∙ sym (follow-then (stepped x s) (runSteps xs) (runSteps ys))
+
+run-gate : (gate : List (List Complex)) (k : ℕ) (s : State) → runSteps (gateStep gate k ∷ []) s ≡ adjacent gate k s
+unfolding runSteps stepped
+run-gate gate k s = follow-none (follow (adjacent gate k s) (λ t. ran 0 t)) ∙ follow-none (adjacent gate k s)
+
+module _ (gate : List (List Complex)) (near n : ℕ) (s : State) where
+  pub gate-out : (x : Ran) → x ≡ swapsDown near n s → (x .refused ≡ 0 → ⊥) → x ≡ routedGate gate near n s
+  unfolding swapsDown routedGate
+  gate-out x e z = sym (run-then (map swapStep (downTo near n)) (gateStep gate near ∷ []) s ∙ ap (λ (r : Ran). follow r (runSteps (gateStep gate near ∷ []))) (sym e) ∙ follow-out x (runSteps (gateStep gate near ∷ [])) z)
+
+  pub gate-on : (x y : Ran) → x ≡ swapsDown near n s → x .refused ≡ 0 → y ≡ adjacent gate near (x .state) → y ≡ routedGate gate near n s
+  unfolding swapsDown routedGate
+  gate-on x y e z f =
+      f ∙ sym (run-then (map swapStep (downTo near n)) (gateStep gate near ∷ []) s ∙ ap (λ (r : Ran). follow r (runSteps (gateStep gate near ∷ []))) (sym e) ∙ follow-on x (runSteps (gateStep gate near ∷ [])) z ∙ run-gate gate near (x .state))
+
+-- ---- from the qubits' sites
+
+module _ (gate : List (List Complex)) (q0 q1 : ℕ) (s : State) (p q : ℕ) (e : p ≡ siteOf (s .chain) q0) (f : q ≡ siteOf (s .chain) q1) where
+  run-routed : (near m : ℕ) (g : List (List Complex)) → g ≡ cond (ltb p q) gate (swapGateQubits gate) → near ≡ min p q → m ≡ max p q - min p q - 1 → routedGate g near m s ≡ gateRun gate q0 q1 s
+  unfolding gateRun routedGate
+  run-routed near m g eg en em = rw (eg, en, em, e, f)
+
+  -- the first qubit stands left
+  pub run-straight : p < q → routedGate gate p (q - (p + 1)) s ≡ gateRun gate q0 q1 s
+  run-straight l = run-routed p (q - (p + 1)) gate (ap (λ (t : Bool). cond t gate (swapGateQubits gate)) (sym (lt-ltb p q l))) (omega arith) (omega arith)
+
+  -- the second stands left, and g is the gate with its qubits exchanged
+  pub run-turned : (g : List (List Complex)) → g ≡ swapGateQubits gate → q < p → routedGate g q (p - (q + 1)) s ≡ gateRun gate q0 q1 s
+  run-turned g eg l = let m : q ≤ p = omega arith in run-routed q (p - (q + 1)) g (eg ∙ ap (λ (t : Bool). cond t gate (swapGateQubits gate)) (sym (le-ltb p q m))) (omega arith) (omega arith)

@@ -1,0 +1,434 @@
+// Cuts of neighbouring sites with the chain record, the labels of the sites, and a gate routed to its two qubits.
+use complex::Complex;
+use cutting::decompose;
+use cutting::kept_values;
+use cutting::store_left;
+use cutting::store_right;
+use gates::NamedGate;
+use gates::matrix_4x4;
+use gates::swap_gate_qubits;
+use model::Center;
+use model::Chain;
+use model::WeightSide;
+use moves::establish_center;
+use moves::prepare_center;
+use svd::Factored;
+ghost use mathlib.Core.Path.{_≡_};
+ghost use mathlib.Core.Logic.{_≢_};
+ghost use mathlib.Core.Bool.{_||_, cond};
+ghost use Prim.Native.Nat.{_+_, _-_, _*_, _^_, _<_, _≤_, min, max};
+ghost use lib.Dec.{ltb};
+ghost use lib.ListN.{length};
+ghost use Rattle.model.specs.Chain.{bondLeft, bondRight, withCenter};
+ghost use Rattle.model.specs.Slots.{held, slotOf, withSite};
+ghost use Rattle.model.specs.Truncation.{cutRank, workspace};
+ghost use Rattle.model.specs.Pair.{pairSvd, leftSite, rightSite};
+ghost use Rattle.model.specs.Moves.{prepared, established};
+ghost use Rattle.model.specs.declared.Center.the-variants.{At};
+ghost use Rattle.model.specs.Cut.{known, canLose, tried, weightSite, cutWith, attempt, ran, adjacent};
+ghost use Rattle.model.specs.Routing.{relabelled, swapStep, stepped, gateRun};
+ghost use Rattle.model.specs.Statements.Soundness.{Sound};
+ghost use Rattle.svd.specs.Order.{Below};
+ghost use Rattle.cutting.specs.Shape.{shapeOf, standing};
+ghost use Rattle.cutting.specs.Kept.{nanIn};
+ghost use Rattle.moves.specs.Ready.{Ready};
+ghost use Rattle.moves.specs.Steps.{Pair};
+ghost use Rattle.cuts.specs.Pair.{recordedCut};
+ghost use Rattle.cuts.specs.Runs.{swapsDown, routedGate};
+
+fn wide(x: u8) -> usize
+    ensures { λ r. ⌜ (r ≡ x) × (r ≤ 255) ⌝ }
+{
+    x as usize
+}
+
+fn smaller(a: usize, b: usize) -> usize
+    ensures { λ r. ⌜ r ≡ min a b ⌝ }
+{
+    if a < b { a } else { b }
+}
+
+fn larger(a: usize, b: usize) -> usize
+    ensures { λ r. ⌜ r ≡ max a b ⌝ }
+{
+    if a < b { b } else { a }
+}
+
+// ---- the tests before a cut
+
+// Whether a cut between sites k and k + 1 needs more numbers than the setting allows.
+fn workspace_exceeded(chain: Chain, k: usize) -> bool
+    requires { ⌜ (k < 63) × (chain .«workspace_exponent» ≤ 63) ⌝ }
+    ensures { λ r. ⌜ r ≡ ltb (2 ^ chain .«workspace_exponent») (workspace (bondLeft chain k) (bondRight chain k) (bondRight chain (k + 1))) ⌝ }
+{
+    let bl = wide(chain.bond_left[k]);
+    let mid = wide(chain.bond_right[k]);
+    let br = wide(chain.bond_right[k + 1]);
+    let allowed: usize = 1 << wide(chain.workspace_exponent);
+    allowed < 20 * bl * br + 2 * mid * br
+}
+
+// Whether a cut of so many values can reach the cap, or drop values under a threshold where bonds have reached 128.
+fn cut_can_lose(chain: Chain, values: usize) -> bool
+    ensures { λ r. ⌜ r ≡ canLose chain values ⌝ }
+{
+    (chain.max_bond_dim < values)
+        | ((0.0 < chain.svd_epsilon) & ((128 <= values) | (128 <= chain.bond_high_water)))
+}
+
+fn center_known(chain: Chain) -> bool
+    ensures { λ r. ⌜ r ≡ known (chain .center) ⌝ }
+{
+    let center = chain.center;
+    match center {
+        Center::Unknown => false,
+        Center::At(_) => true,
+    }
+}
+
+// Whether a cut between sites k and k + 1 keeps a centre: one is recorded, or the cut can lose weight.
+fn keeps_center(chain: Chain, k: usize) -> bool
+    requires { ⌜ k < 63 ⌝ }
+    ensures { λ r. ⌜ r ≡ (known (chain .center) || canLose chain (cutRank (bondLeft chain k) (bondRight chain k) (bondRight chain (k + 1)))) ⌝ }
+{
+    let bl = wide(chain.bond_left[k]);
+    let mid = wide(chain.bond_right[k]);
+    let br = wide(chain.bond_right[k + 1]);
+    let values = smaller(2 * smaller(bl, br), 4 * mid);
+    center_known(chain) | cut_can_lose(chain, values)
+}
+
+// ---- one cut
+
+// The pair k, k + 1 with the gate on it, decomposed at the front of the work slice.
+fn decompose_pair(
+    store: &[f64],
+    work: &mut [f64],
+    gate: [[Complex; 4]; 4],
+    d: usize,
+    k: usize,
+    bl: usize,
+    mid: usize,
+    br: usize,
+    clamp: f64,
+) -> Factored
+    requires { ⌜ Pair d k bl mid br (now store) (now work) ⌝ }
+    ensures { λ r. ⌜ standing (shapeOf bl br) (now (work .exit)) (r .order) ≡ pairSvd clamp bl mid br gate (slotOf d k (now (store .entry))) (slotOf d (k + 1) (now (store .entry))) ⌝ }
+    ensures { λ r. ⌜ r .nan ≡ nanIn (pairSvd clamp bl mid br gate (slotOf d k (now (store .entry))) (slotOf d (k + 1) (now (store .entry)))) ⌝ }
+    ensures { λ r. ⌜ Below (shapeOf bl br .wide) (r .order) ⌝ }
+{
+    let slot = 4 * d * d;
+    let a = k * slot;
+    let b = a + slot;
+    let s = (k + 1) * slot;
+    let t = s + slot;
+    decompose(&store[a..b], &store[s..t], work, gate, bl, mid, br, clamp)
+}
+
+// The two sites of the decomposition, of which chi values are kept.
+fn store_pair(
+    store: &mut [f64],
+    work: &[f64],
+    order: &[u8],
+    side: WeightSide,
+    d: usize,
+    k: usize,
+    bl: usize,
+    br: usize,
+    chi: usize,
+)
+    requires { ⌜ Pair d k bl chi br (now store) (now work) ⌝ }
+    requires { ⌜ (chi ≤ length (now order)) × Below (shapeOf bl br .wide) (now order) ⌝ }
+    ensures { λ _. ⌜ now (store .exit) ≡ withSite d (k + 1) (rightSite side chi br (standing (shapeOf bl br) (now (work .entry)) (now (order .entry)))) (withSite d k (leftSite side bl chi (standing (shapeOf bl br) (now (work .entry)) (now (order .entry)))) (now (store .entry))) ⌝ }
+{
+    let slot = 4 * d * d;
+    let a = k * slot;
+    let b = a + slot;
+    let s = (k + 1) * slot;
+    let t = s + slot;
+    store_left(&mut store[a..b], work, order, side, bl, br, chi);
+    store_right(&mut store[s..t], work, order, side, bl, br, chi);
+}
+
+// The record after a cut that kept chi values: bond, widest bond, discarded weight.
+fn record_cut(chain: Chain, k: usize, chi: usize, discarded: f64) -> Chain
+    requires { ⌜ (k < 63) × (chi ≤ 128) ⌝ }
+    ensures { λ r. ⌜ r ≡ recordedCut chain k chi discarded ⌝ }
+{
+    let mut out = chain;
+    out.bond_left[k + 1] = chi as u8;
+    out.bond_right[k] = chi as u8;
+    out.bond_high_water = larger(chain.bond_high_water, chi);
+    out.truncation_discarded = discarded;
+    out
+}
+
+// The site of the pair that carries the weight.
+fn weight_site(side: WeightSide, k: usize) -> usize
+    requires { ⌜ k < 63 ⌝ }
+    ensures { λ r. ⌜ r ≡ weightSite side k ⌝ }
+{
+    match side {
+        WeightSide::Left => k,
+        WeightSide::Right => k + 1,
+    }
+}
+
+// The centre on that site, if one is kept.
+fn center_after(chain: Chain, k: usize, maintained: bool, side: WeightSide) -> Chain
+    requires { ⌜ k < 63 ⌝ }
+    ensures { λ r. ⌜ r ≡ withCenter chain (cond maintained (At (weightSite side k)) (chain .center)) ⌝ }
+{
+    if maintained {
+        let site = weight_site(side, k);
+        Chain {
+            center: Center::At(site),
+            ..chain
+        }
+    } else {
+        chain
+    }
+}
+
+// What an attempt leaves: the number that refused it, 0 for none; whether it is to be made again with a centre; the chain.
+struct Cut {
+    pub refused: u8,
+    pub again: bool,
+    pub chain: Chain,
+}
+
+// The cut of the pair as it stands.
+fn cut_pair(
+    chain: Chain,
+    store: &mut [f64],
+    work: &mut [f64],
+    gate: [[Complex; 4]; 4],
+    k: usize,
+    maintained: bool,
+    side: WeightSide,
+) -> Cut
+    requires { ⌜ Ready chain (now store) (now work) ⌝ }
+    requires { ⌜ k + 1 < chain .«num_qubits» ⌝ }
+    ensures { λ r. ⌜ tried (r .refused) (r .again) (held (r .chain) (now (store .exit))) ≡ cutWith gate k maintained (prepared side (held chain (now (store .entry)))) ⌝ }
+{
+    let d = chain.max_bond_dim;
+    let bl = wide(chain.bond_left[k]);
+    let mid = wide(chain.bond_right[k]);
+    let br = wide(chain.bond_right[k + 1]);
+    let f = decompose_pair(store, work, gate, d, k, bl, mid, br, chain.norm_clamp_min);
+    if f.nan {
+        return Cut {
+            refused: 7,
+            again: false,
+            chain,
+        };
+    }
+    let order = f.order;
+    let kept = kept_values(
+        work,
+        order,
+        bl,
+        br,
+        chain.svd_epsilon,
+        d,
+        chain.truncation_discarded,
+    );
+    if !maintained & kept.resolvable {
+        return Cut {
+            refused: 0,
+            again: true,
+            chain,
+        };
+    }
+    store_pair(store, work, &order, side, d, k, bl, br, kept.chi);
+    let out = record_cut(chain, k, kept.chi, kept.discarded);
+    Cut {
+        refused: 0,
+        again: false,
+        chain: center_after(out, k, maintained, side),
+    }
+}
+
+// One attempt: refused by 6 above the workspace, else the cut, with the centre brought onto the pair where one is kept.
+fn cut_adjacent_pair(
+    chain: Chain,
+    store: &mut [f64],
+    work: &mut [f64],
+    gate: [[Complex; 4]; 4],
+    k: usize,
+) -> Cut
+    requires { ⌜ Ready chain (now store) (now work) ⌝ }
+    requires { ⌜ k + 1 < chain .«num_qubits» ⌝ }
+    ensures { λ r. ⌜ tried (r .refused) (r .again) (held (r .chain) (now (store .exit))) ≡ attempt gate k (held chain (now (store .entry))) ⌝ }
+{
+    if workspace_exceeded(chain, k) {
+        return Cut {
+            refused: 6,
+            again: false,
+            chain,
+        };
+    }
+    if keeps_center(chain, k) {
+        let p = prepare_center(chain, store, work, k);
+        let ready = p.chain;
+        let side = p.side;
+        cut_pair(ready, store, work, gate, k, true, side)
+    } else {
+        cut_pair(chain, store, work, gate, k, false, WeightSide::Right)
+    }
+}
+
+// ---- a cut, made again at most once
+
+// What a run of cuts leaves: the number that refused one, 0 for none, and the chain.
+pub struct Run {
+    pub refused: u8,
+    pub chain: Chain,
+}
+
+// The second attempt, after a centre is established.
+fn cut_again(
+    chain: Chain,
+    store: &mut [f64],
+    work: &mut [f64],
+    gate: [[Complex; 4]; 4],
+    k: usize,
+) -> Cut
+    requires { ⌜ Ready chain (now store) (now work) ⌝ }
+    requires { ⌜ k + 1 < chain .«num_qubits» ⌝ }
+    ensures { λ r. ⌜ tried (r .refused) (r .again) (held (r .chain) (now (store .exit))) ≡ attempt gate k (established k (held chain (now (store .entry)))) ⌝ }
+{
+    let out = establish_center(chain, store, work, k);
+    cut_adjacent_pair(out, store, work, gate, k)
+}
+
+fn apply_adjacent_two_qubit(
+    chain: Chain,
+    store: &mut [f64],
+    work: &mut [f64],
+    gate: [[Complex; 4]; 4],
+    k: usize,
+) -> Run
+    requires { ⌜ Ready chain (now store) (now work) ⌝ }
+    requires { ⌜ k + 1 < chain .«num_qubits» ⌝ }
+    ensures { λ r. ⌜ ran (r .refused) (held (r .chain) (now (store .exit))) ≡ adjacent gate k (held chain (now (store .entry))) ⌝ }
+{
+    let first = cut_adjacent_pair(chain, store, work, gate, k);
+    let found = first.chain;
+    if first.again {
+        let second = cut_again(found, store, work, gate, k);
+        let out = second.chain;
+        Run {
+            refused: second.refused,
+            chain: out,
+        }
+    } else {
+        Run {
+            refused: first.refused,
+            chain: found,
+        }
+    }
+}
+
+// ---- labels and the route
+
+// The qubits at sites left_site and left_site + 1 exchanged, in both maps.
+fn swap_layout_labels(chain: Chain, left_site: usize) -> Chain
+    requires { ⌜ Sound chain ⌝ }
+    requires { ⌜ «left_site» + 1 < chain .«num_qubits» ⌝ }
+    ensures { λ r. ⌜ r ≡ relabelled «left_site» chain ⌝ }
+{
+    let mut out = chain;
+    let a = wide(out.site_to_logical[left_site]);
+    let b = wide(out.site_to_logical[left_site + 1]);
+    out.site_to_logical[left_site] = b as u8;
+    out.site_to_logical[left_site + 1] = a as u8;
+    out.logical_to_site[a] = (left_site + 1) as u8;
+    out.logical_to_site[b] = left_site as u8;
+    out
+}
+
+// One swap of the route: the cut, then the labels.
+fn swap_step(chain: Chain, store: &mut [f64], work: &mut [f64], k: usize) -> Run
+    requires { ⌜ Ready chain (now store) (now work) ⌝ }
+    requires { ⌜ k + 1 < chain .«num_qubits» ⌝ }
+    ensures { λ r. ⌜ ran (r .refused) (held (r .chain) (now (store .exit))) ≡ stepped (swapStep k) (held chain (now (store .entry))) ⌝ }
+{
+    let gate = matrix_4x4(NamedGate::Swap);
+    let step = apply_adjacent_two_qubit(chain, store, work, gate, k);
+    if step.refused != 0 {
+        return step;
+    }
+    let out = step.chain;
+    Run {
+        refused: 0,
+        chain: swap_layout_labels(out, k),
+    }
+}
+
+// The swaps at far - 1, .., near + 1, up to the first that is refused.
+fn route_swaps(chain: Chain, store: &mut [f64], work: &mut [f64], near: usize, far: usize) -> Run
+    requires { ⌜ Ready chain (now store) (now work) ⌝ }
+    requires { ⌜ (near < far) × (far < chain .«num_qubits») ⌝ }
+    ensures { λ r. ⌜ ran (r .refused) (held (r .chain) (now (store .exit))) ≡ swapsDown near (far - (near + 1)) (held chain (now (store .entry))) ⌝ }
+{
+    let end = near + 1;
+    let mut out = chain;
+    let mut at = far;
+    while end < at {
+        at -= 1;
+        let step = swap_step(out, store, work, at);
+        if step.refused != 0 {
+            return step;
+        }
+        out = step.chain;
+    }
+    Run {
+        refused: 0,
+        chain: out,
+    }
+}
+
+// The swaps, then the gate at the near site.
+fn route_gate(
+    chain: Chain,
+    store: &mut [f64],
+    work: &mut [f64],
+    gate: [[Complex; 4]; 4],
+    near: usize,
+    far: usize,
+) -> Run
+    requires { ⌜ Ready chain (now store) (now work) ⌝ }
+    requires { ⌜ (near < far) × (far < chain .«num_qubits») ⌝ }
+    ensures { λ r. ⌜ ran (r .refused) (held (r .chain) (now (store .exit))) ≡ routedGate gate near (far - (near + 1)) (held chain (now (store .entry))) ⌝ }
+{
+    let step = route_swaps(chain, store, work, near, far);
+    if step.refused != 0 {
+        return step;
+    }
+    let out = step.chain;
+    apply_adjacent_two_qubit(out, store, work, gate, near)
+}
+
+// The gate on the qubits q0 and q1.
+pub fn apply_two_qubit_gate(
+    chain: Chain,
+    store: &mut [f64],
+    work: &mut [f64],
+    gate: [[Complex; 4]; 4],
+    q0: usize,
+    q1: usize,
+) -> Run
+    requires { ⌜ Ready chain (now store) (now work) ⌝ }
+    requires { ⌜ (q0 < chain .«num_qubits») × (q1 < chain .«num_qubits») × (q0 ≢ q1) ⌝ }
+    ensures { λ r. ⌜ ran (r .refused) (held (r .chain) (now (store .exit))) ≡ gateRun gate q0 q1 (held chain (now (store .entry))) ⌝ }
+{
+    let p = wide(chain.logical_to_site[q0]);
+    let q = wide(chain.logical_to_site[q1]);
+    if p < q {
+        route_gate(chain, store, work, gate, p, q)
+    } else {
+        let turned = swap_gate_qubits(gate);
+        route_gate(chain, store, work, turned, q, p)
+    }
+}
