@@ -1,4 +1,6 @@
 // Cuts of neighbouring sites with the chain record, the labels of the sites, and a gate routed to its two qubits.
+use columns::larger;
+use columns::smaller;
 use complex::Complex;
 use cutting::decompose;
 use cutting::kept_values;
@@ -40,18 +42,6 @@ fn wide(x: u8) -> usize
     ensures { λ r. ⌜ (r ≡ x) × (r ≤ 255) ⌝ }
 {
     x as usize
-}
-
-fn smaller(a: usize, b: usize) -> usize
-    ensures { λ r. ⌜ r ≡ min a b ⌝ }
-{
-    if a < b { a } else { b }
-}
-
-fn larger(a: usize, b: usize) -> usize
-    ensures { λ r. ⌜ r ≡ max a b ⌝ }
-{
-    if a < b { b } else { a }
 }
 
 // ---- the tests before a cut

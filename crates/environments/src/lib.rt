@@ -1,5 +1,6 @@
 // The environments of a site, by a walk over the chain's sites from one end. The environment stands at
 // the front of the work slice, as many complex numbers as its dimension squared.
+use columns::wide;
 use gauge::copy_numbers;
 use model::Chain;
 use walks::identity;
@@ -13,12 +14,6 @@ ghost use Rattle.model.specs.Slots.{held, slotOf};
 ghost use Rattle.model.specs.Environment.{leftAcross, rightAcross, leftEnv, rightEnv};
 ghost use Rattle.walks.specs.Products.{envOf};
 ghost use Rattle.environments.specs.Walk.{Walkable, Crossing};
-
-fn wide(x: u8) -> usize
-    ensures { λ r. ⌜ r ≡ x ⌝ }
-{
-    x as usize
-}
 
 // How far b is above a, 0 where it is not.
 fn above(a: usize, b: usize) -> usize

@@ -1,4 +1,6 @@
 // Moves of the orthogonality centre by QR steps.
+use columns::smaller;
+use columns::wide;
 use fills::fill_columns;
 use fills::fill_rows_conj;
 use gauge::absorb_left;
@@ -21,18 +23,6 @@ ghost use Rattle.model.specs.Qr.{kept, qr};
 ghost use Rattle.model.specs.Moves.{rightMatrix, leftMatrix, stepRight, stepLeft, walkRight, walkLeft, moved, established, centeredOn, prepared, preparedOn};
 ghost use Rattle.moves.specs.Ready.{Ready};
 ghost use Rattle.moves.specs.Steps.{factoredRoom, Pair, factorsRight, factorsLeft, storedRight, storedLeft};
-
-fn wide(x: u8) -> usize
-    ensures { λ r. ⌜ r ≡ x ⌝ }
-{
-    x as usize
-}
-
-fn smaller(a: usize, b: usize) -> usize
-    ensures { λ r. ⌜ r ≡ min a b ⌝ }
-{
-    if a < b { a } else { b }
-}
 
 // How many floats the factored list of a matrix of so many rows and columns takes.
 fn factored_room(high: usize, cols: usize) -> usize

@@ -4,6 +4,7 @@ use born::drawn;
 use born::project;
 use born::reset;
 use born::weight;
+use columns::wide;
 use model::Answer;
 use model::Chain;
 use model::Measured;
@@ -33,12 +34,6 @@ ghost use Rattle.outcomes.specs.Slot.{rewritten};
 struct Weights {
     zero: f64,
     one: f64,
-}
-
-fn wide(x: u8) -> usize
-    ensures { λ r. ⌜ r ≡ x ⌝ }
-{
-    x as usize
 }
 
 // The weight of outcome o.
