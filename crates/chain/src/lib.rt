@@ -38,14 +38,7 @@ ghost use Rattle.model.specs.Slots.{held};
 ghost use Rattle.model.specs.Calls.{after, started, walked, appliedOf, startCall, gateCall, namedGateCall, projectCall, measureCall, resetCall, leftEnvironmentCall, rightEnvironmentCall};
 
 // A fresh chain of n qubits under the cap d.
-pub fn start(
-    n: usize,
-    d: usize,
-    epsilon: f64,
-    clamp: f64,
-    exponent: u8,
-    store: &mut [f64],
-) -> Start
+pub fn start(n: usize, d: usize, epsilon: f64, clamp: f64, exponent: u8, store: &mut [f64]) -> Start
     ensures { λ r. ⌜ started (r .answer) (r .chain) (now (store .exit)) ≡ startCall n d epsilon clamp exponent (now (store .entry)) ⌝ }
 {
     let k = start_refusal(n, d, epsilon, clamp, exponent, store.len());
@@ -125,13 +118,7 @@ pub fn apply_named_gate(
 // ---- outcomes
 
 // Qubit q projected on the outcome `bit`.
-pub fn project(
-    chain: Chain,
-    store: &mut [f64],
-    work: &mut [f64],
-    q: usize,
-    bit: bool,
-) -> Projection
+pub fn project(chain: Chain, store: &mut [f64], work: &mut [f64], q: usize, bit: bool) -> Projection
     ensures { λ r. ⌜ after (r .answer) (held (r .chain) (now (store .exit))) (now (work .exit)) ≡ projectCall (held chain (now (store .entry))) (now (work .entry)) q bit ⌝ }
 {
     let k = call_refusal(chain, store.len(), work.len(), chain.num_qubits <= q, false);

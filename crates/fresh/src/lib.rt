@@ -4,7 +4,7 @@ use model::Center;
 use model::Chain;
 ghost use mathlib.Core.Path.{_≡_};
 ghost use mathlib.Core.List.{[], _∷_};
-ghost use Prim.Native.Nat.{_*_, _≤_};
+ghost use Prim.Native.Nat.{_≤_};
 ghost use lib.ListN.{length};
 ghost use Rattle.complex.specs.Complex.{zeroF, oneF};
 ghost use Rattle.model.specs.Slots.{storeRoom, filled};

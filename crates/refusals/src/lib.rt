@@ -3,7 +3,7 @@ use model::Chain;
 use sound::is_sound;
 use sound::settings_fit;
 ghost use mathlib.Core.Path.{_≡_};
-ghost use mathlib.Core.Bool.{_||_, not, cond};
+ghost use mathlib.Core.Bool.{_||_, not, cond, false};
 ghost use Prim.Native.Nat.{_≤_};
 ghost use lib.Dec.{ltb};
 ghost use Rattle.model.specs.Slots.{storeRoom, workRoom};
@@ -54,14 +54,7 @@ fn first_of(short: bool, outside: bool, improper: bool) -> u8
 }
 
 // Of start, with a store of this length.
-pub fn start_refusal(
-    n: usize,
-    d: usize,
-    epsilon: f64,
-    clamp: f64,
-    exponent: u8,
-    store: usize,
-) -> u8
+pub fn start_refusal(n: usize, d: usize, epsilon: f64, clamp: f64, exponent: u8, store: usize) -> u8
     ensures { λ r. ⌜ r ≡ cond (not (settingsFit n d epsilon clamp exponent)) 1 (cond (ltb store (storeRoom n d)) 2 0) ⌝ }
 {
     if !settings_fit(n, d, epsilon, clamp, exponent) {

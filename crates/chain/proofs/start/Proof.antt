@@ -1,0 +1,40 @@
+-- Refused under 1 or 2, or else a fresh chain in the slots of the store.
+use mathlib.Core.Path.{_≡_}
+use Rattle.chain.specs.Accepted.{start-fits}
+use Rattle.chain.specs.Ends.{start-ends, start-refused}
+use borrow.Author.Needs.{needs}
+use Rattle.chain.proofs.start.Statement.{statement}
+use Rattle.chain.proofs.start.Tie as tie
+
+start-refusal-requires : tie.Need-start-refusal-requires
+start-refusal-requires c κs = search needs
+
+zero-chain-requires : tie.Need-zero-chain-requires
+zero-chain-requires c κs = search needs
+
+returns : tie.Need-returns
+returns c = start-refused (c .before .before .before .before .args .n) (c .before .before .before .before .args .d) (c .before .before .before .before .args .epsilon) (c .before .before .before .before .args .clamp) (c .before .before .before .before .args .exponent) (c .before .before .before .before .args .store .now) _ (c .before .before .start-refusal .ensures) _ (c .before .if1 .taken) (c .zero-chain .ensures)
+
+fresh-store-requires : tie.Need-fresh-store-requires
+fresh-store-requires c κs = start-fits (c .before .before .before .before .args .n) (c .before .before .before .before .args .d) (c .before .before .before .before .args .epsilon) (c .before .before .before .before .args .clamp) (c .before .before .before .before .args .exponent) (c .before .before .before .before .args .store .now) _ (c .before .before .start-refusal .ensures) (c .before .if1 .left)
+
+fresh-chain-requires : tie.Need-fresh-chain-requires
+fresh-chain-requires c κs = search needs
+
+same-length : tie.Need-same-length
+same-length c = search needs
+
+returns-2 : tie.Need-returns-2
+returns-2 c = start-ends (c .before .before .before .before .before .before .before .before .args .n) (c .before .before .before .before .before .before .before .before .args .d) (c .before .before .before .before .before .before .before .before .args .epsilon) (c .before .before .before .before .before .before .before .before .args .clamp) (c .before .before .before .before .before .before .before .before .args .exponent) (c .before .before .before .before .before .before .before .before .args .store .now) _ (c .before .before .before .before .before .before .start-refusal .ensures) _ _ (c .before .before .before .before .before .if1 .left) (c .fresh-chain .ensures) (c .before .before .before .fresh-store .ensures)
+
+pub start-spec : {M : Type 1} → statement M
+start-spec =
+    tie.close
+    (tie.spec
+    start-refusal-requires
+    zero-chain-requires
+    returns
+    fresh-store-requires
+    fresh-chain-requires
+    same-length
+    returns-2)

@@ -1,0 +1,23 @@
+use native.Mathlib.Omega.{arith}
+use Rattle.refusals.specs.Ranges.{square-most}
+use borrow.Author.Needs.{needs}
+use Rattle.refusals.proofs.work_room.Statement.{statement}
+use Rattle.refusals.proofs.work_room.Tie as tie
+
+mul-result : tie.Need-mul-result
+mul-result c = search needs
+
+mul-result-2 : tie.Need-mul-result-2
+mul-result-2 c = omega (arith, square-most (c .args .d) (c .pre))
+
+mul-result-3 : tie.Need-mul-result-3
+mul-result-3 c = search needs
+
+add-result : tie.Need-add-result
+add-result c = omega (arith, square-most (c .args .d) (c .pre))
+
+returns : tie.Need-returns
+returns c = search needs
+
+pub work-room-spec : {M : Type 1} → statement M
+work-room-spec = tie.close (tie.spec mul-result mul-result-2 mul-result-3 add-result returns)

@@ -1,0 +1,2 @@
+-- What bounds room.
+pub mod Ranges
