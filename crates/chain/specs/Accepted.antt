@@ -104,12 +104,8 @@ module _ (c : Chain) (store work : List Float) (f : Fits c store work) (room : �
 
 -- ---- an environment of dimension dim, that a walk left at the front of the part
 
-module _ (dim d : ℕ) (most : dim ≤ d) (used rest out : List Float) where
-  -- it fits the result slice and what it is read from
-  pub written-fits : d ≤ 128 → 2 * d * d ≤ length out → workRoom d ≤ length (used ++ rest) → (dim ≤ 128) × (2 * (dim * dim) ≤ length out) × (2 * (dim * dim) ≤ length (used ++ rest))
-  written-fits cap l m = let s = mul-le-mul most most in (omega arith, omega (arith, s), omega (arith, s))
-
-  pub written-entries : length used ≡ workRoom d → take (2 * (dim * dim)) (used ++ rest) ++ drop (2 * (dim * dim)) out ≡ take (2 * (dim * dim)) used ++ drop (length (take (2 * (dim * dim)) used)) out
-  written-entries l =
-      let n : 2 * (dim * dim) ≤ length used = omega (arith, mul-le-mul most most) in
-      rw (take-append-le (2 * (dim * dim)) used rest n, length-take-le (2 * (dim * dim)) used n)
+pub written-entries : (dim d : ℕ) (used rest out : List Float) → dim ≤ d → length used ≡ workRoom d
+    → take (2 * (dim * dim)) (used ++ rest) ++ drop (2 * (dim * dim)) out ≡ take (2 * (dim * dim)) used ++ drop (length (take (2 * (dim * dim)) used)) out
+written-entries dim d used rest out most l =
+    let n : 2 * (dim * dim) ≤ length used = omega (arith, mul-le-mul most most) in
+    rw (take-append-le (2 * (dim * dim)) used rest n, length-take-le (2 * (dim * dim)) used n)

@@ -200,10 +200,10 @@ pub fn left_environment(
         return Contracted::Refused(k);
     }
     let room = work_room(chain.max_bond_dim);
-    let dim = compute_left_env(chain, store, &mut work[..room], from, site);
-    write_environment(out, work, dim);
+    let left_dim = compute_left_env(chain, store, &mut work[..room], from, site);
+    write_environment(out, work, left_dim);
     fill_zero(&mut work[..room]);
-    Contracted::Dim(dim)
+    Contracted::Dim(left_dim)
 }
 
 // The right environment of a site, the sites from `to` back to the next one contracted, into the result slice.
@@ -224,8 +224,8 @@ pub fn right_environment(
         return Contracted::Refused(k);
     }
     let room = work_room(chain.max_bond_dim);
-    let dim = compute_right_env(chain, store, &mut work[..room], site, to);
-    write_environment(out, work, dim);
+    let right_dim = compute_right_env(chain, store, &mut work[..room], site, to);
+    write_environment(out, work, right_dim);
     fill_zero(&mut work[..room]);
-    Contracted::Dim(dim)
+    Contracted::Dim(right_dim)
 }
