@@ -33,7 +33,10 @@ def folders_are_listed(crates):
 
 
 # Kernels, moves and cuts: their functions have requirements and are reached through the public calls of `chain` alone.
-INTERNAL = {"columns", "jacobi", "svd", "truncation", "qr", "pair", "fills", "gauge", "walks", "born", "sound", "moves", "cutting", "cuts", "environments", "outcomes"}
+INTERNAL = {
+    "columns", "jacobi", "svd", "truncation", "qr", "pair", "fills", "gauge", "walks", "born", "sound", "moves", "cutting", "cuts",
+    "environments", "outcomes", "refusals", "fresh",
+}
 ABOVE_INTERNAL = INTERNAL | {"chain"}
 
 # Access by index is the one thing that a public function of a leaf may require.
@@ -68,6 +71,68 @@ def readme_maps_every_crate(crates):
     return [f"{n} is not in README.md's map" for n in crates if f"| `{n}` |" not in text]
 
 
+# The public calls of `chain`, and nothing else.
+CALLS = {"start", "apply_gate", "apply_named_gate", "project", "measure", "reset", "left_environment", "right_environment"}
+
+
+def chain_offers_the_calls_alone():
+    text = (CRATES / "chain/src/lib.rt").read_text()
+    public = set(re.findall(r"^\s*pub (?!fn)(\w+ \w+)", text, re.M)) | set(re.findall(r"^\s*pub fn (\w+)", text, re.M))
+    return [f"chain has the public {n}" for n in sorted(public - CALLS)] + [f"chain has no {n}" for n in sorted(CALLS - public)]
+
+
+def function(crate, name):
+    """The text of a function, from its name to the line that closes it."""
+    m = re.search(rf"^(?:pub )?fn {name}\b.*?^}}$", (CRATES / crate / "src/lib.rt").read_text(), re.M | re.S)
+    return m.group(0) if m else ""
+
+
+# The forms that document 01 requires: crate, function, what its text has to hold. docs/DECISIONS.md has the same table.
+LENT_TO_WRITE = r"&mut store\[\w+\.\.\w+\]"
+LENT_TO_READ = r"&store\[\w+\.\.\w+\]"
+GATE = r"\[\[Complex; 4\]; 4\]"
+FORMS = [
+    ("qr", "factorize_gram_schmidt", r"for j in [^{]*\{.*let residual = loop \{.*break r;.*\};"),
+    ("moves", "write_right", LENT_TO_WRITE),
+    ("moves", "write_left", LENT_TO_WRITE),
+    ("cuts", "store_pair", LENT_TO_WRITE),
+    ("outcomes", "project_slot", LENT_TO_WRITE),
+    ("outcomes", "reset_slot", LENT_TO_WRITE),
+    ("fresh", "fresh_store", LENT_TO_WRITE),
+    ("root", "from_parts", r"f64::from_bits"),
+    ("gates", "swap_gate_qubits", rf"gate: {GATE}\) -> {GATE}"),
+    ("cuts", "decompose_pair", LENT_TO_READ),
+    ("moves", "step_right", LENT_TO_READ),
+    ("moves", "step_left", LENT_TO_READ),
+    ("environments", "left_step", LENT_TO_READ),
+    ("environments", "right_step", LENT_TO_READ),
+]
+# The same of types: crate, what its text has to hold.
+TYPES = [
+    ("model", r"pub enum Projected \{\s*Kept\(f64\),\s*Nothing,\s*Refused\(u8\),\s*\}"),
+    ("model", r"pub struct Projection \{\s*pub answer: Projected,\s*pub chain: Chain,\s*\}"),
+    ("model", r"pub struct Chain \{[^}]*svd_epsilon: f64,[^}]*norm_clamp_min: f64,"),
+    ("complex", r"pub struct Complex \{\s*pub re: f64,\s*pub im: f64,\s*\}"),
+]
+# Laws that a form asks for: file, name.
+LAWS = [("root/specs/Theorems.antt", "root-nearest"), ("root/specs/Root.antt", "root-oneF")]
+
+
+def required_forms_are_there():
+    pages = (TOP / "docs/DECISIONS.md").read_text()
+    out = [f"{c}::{f} has not its form" for c, f, form in FORMS if not re.search(form, function(c, f), re.S)]
+    out += [f"docs/DECISIONS.md does not name {f} of {c}" for c, f, _ in FORMS if f"`crates/{c}/src/lib.rt`" not in pages or f"`{f}`" not in pages]
+    out += [f"{c} has no {form}" for c, form in TYPES if not re.search(form, (CRATES / c / "src/lib.rt").read_text())]
+    out += [f"{path} has no {law}" for path, law in LAWS if not re.search(rf"^pub {law} :", (CRATES / path).read_text(), re.M)]
+    return out
+
+
+def no_kernel_takes_the_record():
+    """Below moves the functions take slices and numbers; the soundness test and what start makes are about the record itself."""
+    kernels = ["columns", "jacobi", "svd", "truncation", "qr", "pair", "fills", "gauge", "walks", "born", "cutting"]
+    return [f"{c} names the chain record" for c in kernels if re.search(r"\bChain\b", (CRATES / c / "src/lib.rt").read_text())]
+
+
 def nothing_is_left_open():
     out = []
     for path in sorted(CRATES.glob("**/*.antt")):
@@ -83,6 +148,9 @@ check("internal crates are named from inside alone", internal_crates_stay_inside
 check("public functions require nothing", public_functions_require_nothing())
 check("must-fail edits say what they break", edits_say_what_they_break())
 check("README maps every crate", readme_maps_every_crate(crates))
+check("chain offers the calls alone", chain_offers_the_calls_alone())
+check("the required forms are there", required_forms_are_there())
+check("kernels take slices and numbers", no_kernel_takes_the_record())
 check("no proof has a hole", nothing_is_left_open())
 for f in faults:
     print(f)
