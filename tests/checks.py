@@ -40,7 +40,7 @@ INTERNAL = {
 ABOVE_INTERNAL = INTERNAL | {"chain"}
 
 # Access by index is the one thing that a public function of a leaf may require.
-MAY_REQUIRE = {"complex_at", "set_complex"}
+MAY_REQUIRE = {"complex_at", "set_complex", "u8_at", "u16_at", "u32_at", "u64_at", "f64_at"}
 
 
 def internal_crates_stay_inside(crates):
