@@ -1,0 +1,76 @@
+#!/usr/bin/env python3
+"""The port's speed against the Rust's, same machine, same gates, interleaved in one process.
+
+    python3 tests/bench/bench.py RUST OUT [ROUNDS [ONLY]]
+
+RUST is the folder of the Rust text, OUT a folder to build in (tests/oracle/build_oracle.py says what that needs). The
+port is linked as a static library that `rt staticlib` writes once it is proved. Two builds of the Rust stand beside it:
+as it is, and with each square root taken by the port's root. Prints microseconds a gate and the ratios, the best of
+ROUNDS (5); ONLY names the circuits to run.
+"""
+import os, re, shutil, subprocess, sys
+
+HERE = os.path.dirname(os.path.abspath(__file__))
+TOP = os.path.dirname(os.path.dirname(HERE))
+if len(sys.argv) < 3:
+    raise SystemExit(__doc__)
+RUST, OUT = sys.argv[1], os.path.abspath(sys.argv[2])
+
+
+def run(*words, **more):
+    subprocess.run(words, check=True, **more)
+
+
+def replaced(path, old, new):
+    text = open(path).read()
+    assert old in text, f"{path} has no {old}"
+    open(path, "w").write(text.replace(old, new))
+
+
+def rust_files(folder):
+    return [os.path.join(d, f) for d, _, files in os.walk(folder) for f in files if f.endswith(".rs")]
+
+
+if not os.path.isdir(os.path.join(OUT, "crate")):
+    run("python3", os.path.join(TOP, "tests", "oracle", "build_oracle.py"), RUST, OUT)
+for name in ("root_export", "bench_export"):
+    run("rt", "staticlib", name, cwd=TOP, stdout=subprocess.DEVNULL)
+
+# the Rust with the port's root
+rooted = os.path.join(OUT, "rooted")
+bench = os.path.join(OUT, "bench")
+for folder in (rooted, bench):
+    shutil.rmtree(folder, ignore_errors=True)
+    shutil.copytree(os.path.join(OUT, "crate"), folder, ignore=shutil.ignore_patterns("target"))
+    manifest = os.path.join(folder, "Cargo.toml")
+    text = re.sub(r"\[\[bin\]\]\nname = .*\npath = .*\n", "", open(manifest).read())
+    open(manifest, "w").write(text)
+replaced(os.path.join(rooted, "Cargo.toml"), 'name = "oracle"', 'name = "rooted"')
+for path in rust_files(os.path.join(rooted, "src")):
+    text = open(path).read()
+    if ".sqrt()" in text:
+        lines = text.replace(".sqrt()", ".port_root()").split("\n")
+        lines.insert(next(k for k, l in enumerate(lines) if l.startswith("use ")), "use crate::PortRoot;")
+        open(path, "w").write("\n".join(lines))
+with open(os.path.join(rooted, "src", "lib.rs"), "a") as f:
+    f.write("""
+unsafe extern "C" {
+    fn jondwave_root(x: f64) -> f64;
+}
+pub trait PortRoot {
+    fn port_root(self) -> f64;
+}
+impl PortRoot for f64 {
+    fn port_root(self) -> f64 {
+        unsafe { jondwave_root(self) }
+    }
+}
+""")
+
+# the benchmark, over both
+shutil.copy(os.path.join(HERE, "port_bench.rs"), os.path.join(bench, "src"))
+replaced(os.path.join(bench, "Cargo.toml"), "[dependencies]", '[[bin]]\nname = "port_bench"\npath = "src/port_bench.rs"\n\n[dependencies]\nrooted = { path = "../rooted" }')
+libs = os.path.join(TOP, "target", "staticlib")
+flags = f"-L {libs} -l static=bench_export -l static=root_export"
+run("cargo", "build", "--release", "--offline", "--quiet", "--bin", "port_bench", cwd=bench, env={**os.environ, "RUSTFLAGS": flags + " -Awarnings"})
+run(os.path.join(bench, "target", "release", "port_bench"), *sys.argv[3:])

@@ -1,0 +1,156 @@
+//! The port and the Rust on the same gates, interleaved in one process: microseconds a gate, the best of some rounds.
+//! `rooted` is the same Rust with each square root taken by the port's own root, so that what the root costs is seen.
+use num_complex::Complex64;
+use oracle::mps::access as rust;
+use rooted::mps::access as rooted_rust;
+use std::time::Instant;
+
+unsafe extern "C" {
+    fn jondwave_gates(n: usize, d: usize, eps: f64, clamp: f64, g: *const u8, gl: usize, s: *mut f64, sl: usize, w: *mut f64, wl: usize) -> f64;
+}
+
+const EPSILON: f64 = 1e-12;
+const CLAMP: f64 = 1e-30;
+
+type Gate = [[Complex64; 4]; 4];
+type Circuit = Vec<(usize, usize, Gate)>;
+
+struct Rng(u64);
+impl Rng {
+    // splitmix64
+    fn bits(&mut self) -> u64 {
+        self.0 = self.0.wrapping_add(0x9E3779B97F4A7C15);
+        let mut z = self.0;
+        z = (z ^ (z >> 30)).wrapping_mul(0xBF58476D1CE4E5B9);
+        z = (z ^ (z >> 27)).wrapping_mul(0x94D049BB133111EB);
+        z ^ (z >> 31)
+    }
+    fn below(&mut self, n: usize) -> usize {
+        (self.bits() % n as u64) as usize
+    }
+    fn real(&mut self) -> f64 {
+        (self.bits() >> 11) as f64 / (1u64 << 53) as f64 * 2.0 - 1.0
+    }
+    fn normal(&mut self) -> f64 {
+        self.real() + self.real() + self.real()
+    }
+}
+
+/// The q of a random matrix's QR factoring.
+fn unitary(r: &mut Rng) -> Gate {
+    let a: Vec<Complex64> = (0..16).map(|_| Complex64::new(r.normal(), r.normal())).collect();
+    let (q, _, k) = rust::qr(&a, 4, 4);
+    assert!(k == 4);
+    std::array::from_fn(|i| std::array::from_fn(|j| q[j * 4 + i]))
+}
+
+/// One nonzero entry in each row and column: 1, -1, i or -i.
+fn permutation(r: &mut Rng) -> Gate {
+    let units = [(1.0, 0.0), (-1.0, 0.0), (0.0, 1.0), (0.0, -1.0)];
+    let mut p = [0usize, 1, 2, 3];
+    for i in (1..4).rev() {
+        p.swap(i, r.below(i + 1));
+    }
+    let mut g = [[Complex64::new(0.0, 0.0); 4]; 4];
+    for (c, &row) in p.iter().enumerate() {
+        let (re, im) = units[r.below(4)];
+        g[row][c] = Complex64::new(re, im);
+    }
+    g
+}
+
+fn brickwork(n: usize, layers: usize) -> Circuit {
+    let mut r = Rng(7);
+    let mut g = Vec::new();
+    for l in 0..layers {
+        for k in (l % 2..n - 1).step_by(2) {
+            g.push((k, k + 1, unitary(&mut r)));
+        }
+    }
+    g
+}
+
+fn shuffled(n: usize, gates: usize) -> Circuit {
+    let mut r = Rng(9);
+    (0..gates)
+        .map(|_| {
+            let p = r.below(n);
+            let q = (p + 1 + r.below(n - 1)) % n;
+            (p, q, permutation(&mut r))
+        })
+        .collect()
+}
+
+/// The circuit as gate records.
+fn records(gates: &Circuit) -> Vec<u8> {
+    let mut o = Vec::new();
+    for (a, b, g) in gates {
+        o.extend_from_slice(&[4, 1, 2, 0, *a as u8, *b as u8]);
+        for z in g.iter().flatten() {
+            o.extend_from_slice(&z.re.to_bits().to_le_bytes());
+            o.extend_from_slice(&z.im.to_bits().to_le_bytes());
+        }
+    }
+    o
+}
+
+macro_rules! runs {
+    ($name:ident, $rust:ident) => {
+        fn $name(n: usize, d: usize, gates: &Circuit) -> f64 {
+            let lent = $rust::Lent { store: usize::MAX, work: usize::MAX, start_needs_work: false, raw_panic: false };
+            let mut ch = $rust::Chain::start(n, d, 63, EPSILON, CLAMP, lent).ok().unwrap();
+            for (a, b, g) in gates {
+                assert!(matches!(ch.gate(*a, *b, g), $rust::Answer::Done));
+            }
+            ch.discarded()
+        }
+    };
+}
+runs!(by_rust, rust);
+runs!(by_rooted, rooted_rust);
+
+fn timed(best: &mut f64, run: impl FnOnce() -> f64) -> u64 {
+    let t = Instant::now();
+    let x = run();
+    *best = best.min(t.elapsed().as_secs_f64());
+    x.to_bits()
+}
+
+fn main() {
+    let mut args = std::env::args().skip(1);
+    let rounds: usize = args.next().map_or(5, |x| x.parse().unwrap());
+    let only: Option<String> = args.next();
+    let mut cases: Vec<(String, usize, usize, Circuit)> = Vec::new();
+    for (d, layers) in [(2, 400), (4, 120), (8, 40), (16, 16), (32, 12), (64, 13)] {
+        cases.push((format!("brickwork n 16 D {d}"), 16, d, brickwork(16, layers)));
+    }
+    for (n, layers) in [(8, 80), (32, 20), (64, 10)] {
+        cases.push((format!("brickwork n {n} D 8"), n, 8, brickwork(n, layers)));
+    }
+    for n in [16, 32, 64] {
+        cases.push((format!("permutation n {n} D 1"), n, 1, shuffled(n, 2000)));
+    }
+    println!("{:>22} {:>6} {:>10} {:>10} {:>7} {:>14} {:>7}", "circuit", "gates", "port", "Rust", "ratio", "Rust, our root", "ratio");
+    for (name, n, d, gates) in &cases {
+        if only.as_ref().is_some_and(|o| !name.contains(o.as_str())) {
+            continue;
+        }
+        let bytes = records(gates);
+        let mut store = vec![0.0f64; 4 * n * d * d];
+        let mut work = vec![0.0f64; 80 * d * d + 16 * d];
+        let (mut port, mut rust, mut rooted) = (f64::MAX, f64::MAX, f64::MAX);
+        for _ in 0..rounds {
+            let x = timed(&mut port, || unsafe {
+                jondwave_gates(*n, *d, EPSILON, CLAMP, bytes.as_ptr(), bytes.len(), store.as_mut_ptr(), store.len(), work.as_mut_ptr(), work.len())
+            });
+            let y = timed(&mut rust, || by_rust(*n, *d, gates));
+            let z = timed(&mut rooted, || by_rooted(*n, *d, gates));
+            assert!(x == y && y == z, "discarded weights differ");
+        }
+        let c = 1e6 / gates.len() as f64;
+        println!(
+            "{:>22} {:>6} {:>10.2} {:>10.2} {:>7.2} {:>14.2} {:>7.2}",
+            name, gates.len(), port * c, rust * c, port / rust, rooted * c, port / rooted
+        );
+    }
+}
