@@ -768,7 +768,8 @@ def workspace(t, count):
             c.numbers(WORK, [NAN] * (work_room(d) + 3))
             c.call(NAMED, 0, 1, 1, expect=expect)
             c.numbers(WORK, [NAN] * work_room(d))
-            c.call(GATE, 1, 0, *t.gate_words(t.gate()), expect=expect)
+            # a gate of any size may be refused by 7 where 6 does not refuse it
+            c.call(GATE, 1, 0, *t.gate_words(t.gate()), expect=expect if expect == (0, 6) else None)
             cases.append(c)
             rec = Record(2, d, exponent)
             rec.discarded, rec.center = 0.125, t.r.choice([None, 0, 1])
