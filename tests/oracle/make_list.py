@@ -451,4 +451,5 @@ def main():
     print(f"{len(streams)} streams, {sum(map(len, stdin))} bytes in, {sum(map(len, stdout))} bytes out")
 
 
-main()
+if __name__ == "__main__":
+    main()

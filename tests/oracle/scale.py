@@ -1,0 +1,136 @@
+#!/usr/bin/env python3
+"""Fresh random streams through the port and the Rust, and a byte-flipping fuzz of `chainrun`.
+
+    python3 tests/oracle/scale.py OUT [--seeds N] [--from SEED] [--fuzz N] [--jobs N]
+
+OUT has the oracle (build_oracle.py); target/bin has `chainrun` and `replay` (rt check chainrun replay).
+Streams: make_list.py's, drawn anew from each seed; those that are the same at every seed are left out. The lines of
+`chainrun` and the whole states and environments of `replay` are compared with the oracle's text.
+Fuzz: streams of the stored list with bytes changed, put in, taken out or cut off. `chainrun` has to end by itself, with
+status 0 and within ten seconds, and to print what the oracle prints.
+"""
+import argparse
+import collections
+import multiprocessing
+import pathlib
+import random
+import struct
+import subprocess
+import sys
+
+import make_list
+
+TOP = pathlib.Path(__file__).resolve().parent.parent.parent
+CHAINRUN, REPLAY = TOP / "target/bin/chainrun", TOP / "target/bin/replay"
+FIXED = {"run cases", "refusals 1 and 2", "bad codes, kinds and lengths"}
+
+
+def run(words, data):
+    p = subprocess.run(words, input=data, stdout=subprocess.PIPE, stderr=subprocess.PIPE, timeout=10)
+    return p.returncode, p.stdout
+
+
+def sections(text):
+    """What replay wrote, stream by stream."""
+    out = []
+    for line in text.decode().splitlines():
+        if line.startswith("stream "):
+            out.append([])
+        else:
+            out[-1].append(line)
+    return out
+
+
+def one_seed(job):
+    oracle, seed = job
+    make_list.SEED = seed
+    make_list.streams.clear()
+    make_list.make_streams()
+    drawn = [(c, n, data) for c, n, data, _, _ in make_list.streams if c not in FIXED]
+    _, text = run([REPLAY], b"".join(struct.pack("<I", len(d)) + d for _, _, d in drawn))
+    count, faults = collections.Counter(), []
+    for (category, name, data), states in zip(drawn, sections(text), strict=True):
+        want = make_list.kept(make_list.ask(oracle, data))
+        lines = [x for x in want if x[0] != "#"]
+        count[category] += 1
+        count["records"] += len(lines)
+        if states != want:
+            faults.append(f"seed {seed}, {category}, {name}: whole states differ")
+        if run([CHAINRUN], data)[1].decode().splitlines() != lines:
+            faults.append(f"seed {seed}, {category}, {name}: chainrun's lines differ")
+    return count, faults
+
+
+def stored():
+    data, at, out = (TOP / "crates/replay/stdin").read_bytes(), 0, []
+    while at < len(data):
+        (size,) = struct.unpack_from("<I", data, at)
+        out.append(data[at + 4 : at + 4 + size])
+        at += 4 + size
+    return [s for s in out if s]
+
+
+def changed(r, stream):
+    b = bytearray(stream)
+    for _ in range(r.choice([1, 1, 1, 2, 4])):
+        at = r.randrange(len(b) + 1)
+        what = r.randrange(6)
+        if what < 3 and at < len(b):
+            b[at] = (b[at] ^ (1 << r.randrange(8))) if what else r.randrange(256)
+        elif what == 3:
+            b[at:at] = bytes(r.randrange(256) for _ in range(r.choice([1, 1, 2, 8])))
+        elif what == 4:
+            del b[at : at + r.choice([1, 1, 2, 8])]
+        else:
+            del b[at:]
+    return bytes(b)
+
+
+def fuzzed(job):
+    oracle, seed, count = job
+    r, streams = random.Random(seed), stored()
+    faults, ends = [], collections.Counter()
+    for k in range(count):
+        data = changed(r, r.choice(streams))
+        try:
+            status, text = run([CHAINRUN], data)
+        except subprocess.TimeoutExpired:
+            faults.append(f"fuzz {seed}/{k}: no end within ten seconds: {data.hex()}")
+            continue
+        _, want = run([oracle], data)
+        ends["0 8" if text.endswith(b"0 8\n") else "end of input"] += 1
+        if status or text != want:
+            faults.append(f"fuzz {seed}/{k}: status {status}, {text!r}, and the oracle {want!r}: {data.hex()}")
+    return ends, faults
+
+
+def main():
+    p = argparse.ArgumentParser(description=__doc__, formatter_class=argparse.RawDescriptionHelpFormatter)
+    p.add_argument("out")
+    p.add_argument("--seeds", type=int, default=60)
+    p.add_argument("--from", type=int, default=1000, dest="first")
+    p.add_argument("--fuzz", type=int, default=100000)
+    p.add_argument("--jobs", type=int, default=2)
+    a = p.parse_args()
+    oracle = str(pathlib.Path(a.out) / "oracle_run")
+    chunk = 1000
+    total, faults, ends = collections.Counter(), [], collections.Counter()
+    with multiprocessing.Pool(a.jobs) as pool:
+        for count, found in pool.imap_unordered(one_seed, [(oracle, a.first + k) for k in range(a.seeds)]):
+            total.update(count)
+            faults += found
+        for found_ends, found in pool.imap_unordered(fuzzed, [(oracle, k, min(chunk, a.fuzz - k)) for k in range(0, a.fuzz, chunk)]):
+            ends.update(found_ends)
+            faults += found
+    records = total.pop("records", 0)
+    for category, count in sorted(total.items()):
+        print(f"{count:8} {category}")
+    print(f"{sum(total.values())} streams, {records} records; fuzz: {sum(ends.values())} inputs, {dict(ends)}")
+    for f in faults[:20]:
+        print(f)
+    print(f"{len(faults)} differences")
+    sys.exit(1 if faults else 0)
+
+
+if __name__ == "__main__":
+    main()
