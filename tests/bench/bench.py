@@ -2,6 +2,7 @@
 """The port's speed against the Rust's, same machine, same gates, interleaved in one process.
 
     python3 tests/bench/bench.py RUST OUT [ROUNDS [ONLY]]
+    python3 tests/bench/bench.py RUST OUT count         # instructions, by valgrind's callgrind
 
 RUST is the folder of the Rust text, OUT a folder to build in (tests/oracle/build_oracle.py says what that needs). The
 port is linked as a static library that `rt staticlib` writes once it is proved. Two builds of the Rust stand beside it:
@@ -34,7 +35,7 @@ def rust_files(folder):
 if not os.path.isdir(os.path.join(OUT, "crate")):
     run("python3", os.path.join(TOP, "tests", "oracle", "build_oracle.py"), RUST, OUT)
 for name in ("root_export", "bench_export"):
-    run("rt", "staticlib", name, cwd=TOP, stdout=subprocess.DEVNULL)
+    run("rt", "staticlib", name, cwd=TOP, stdout=subprocess.DEVNULL, stderr=subprocess.DEVNULL)
 
 # the Rust with the port's root
 rooted = os.path.join(OUT, "rooted")
@@ -73,4 +74,20 @@ replaced(os.path.join(bench, "Cargo.toml"), "[dependencies]", '[[bin]]\nname = "
 libs = os.path.join(TOP, "target", "staticlib")
 flags = f"-L {libs} -l static=bench_export -l static=root_export"
 run("cargo", "build", "--release", "--offline", "--quiet", "--bin", "port_bench", cwd=bench, env={**os.environ, "RUSTFLAGS": flags + " -Awarnings"})
-run(os.path.join(bench, "target", "release", "port_bench"), *sys.argv[3:])
+program = os.path.join(bench, "target", "release", "port_bench")
+if sys.argv[3:] != ["count"]:
+    run(program, *sys.argv[3:])
+    raise SystemExit
+
+
+def instructions(circuit, function):
+    """How many are executed inside the function, in one round of the circuit."""
+    words = ["valgrind", "--tool=callgrind", "--callgrind-out-file=/dev/null", f"--toggle-collect={function}", program, "1", circuit]
+    text = subprocess.run(words, check=True, stdout=subprocess.PIPE, stderr=subprocess.PIPE, text=True).stderr
+    return int(re.search(r"Collected : (\d+)", text)[1])
+
+
+print(f"{'circuit':>22} {'port':>14} {'Rust':>14} {'ratio':>7} {'Rust, our root':>14} {'ratio':>7}")
+for circuit in ("n 16 D 2", "n 16 D 4", "n 16 D 8", "n 16 D 16", "n 16 D 32", "permutation n 64"):
+    port, rust, rooted_rust = (instructions(circuit, f) for f in ("jondwave_gates", "by_rust", "by_rooted"))
+    print(f"{circuit:>22} {port:>14} {rust:>14} {port / rust:>7.2f} {rooted_rust:>14} {port / rooted_rust:>7.2f}", flush=True)

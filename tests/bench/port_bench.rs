@@ -96,6 +96,8 @@ fn records(gates: &Circuit) -> Vec<u8> {
 
 macro_rules! runs {
     ($name:ident, $rust:ident) => {
+        #[inline(never)]
+        #[unsafe(no_mangle)]
         fn $name(n: usize, d: usize, gates: &Circuit) -> f64 {
             let lent = $rust::Lent { store: usize::MAX, work: usize::MAX, start_needs_work: false, raw_panic: false };
             let mut ch = $rust::Chain::start(n, d, 63, EPSILON, CLAMP, lent).ok().unwrap();
