@@ -23,3 +23,6 @@ if grep -l 'has no `Need-' target/must-fail/*/*/.log; then
     echo 'the edits above are refused for their shape, and not because a fact fails'
     exit 1
 fi
+
+# What was built, on the stored streams and on document 01's cases. Silent unless something differs.
+python3 tests/chainrun.py

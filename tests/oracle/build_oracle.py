@@ -5,8 +5,8 @@ in the text and switched off by the compiler (feature absent, no test build).
 
     python3 build_oracle.py RUST OUT [CRATES]
 
-RUST is the folder of the Rust text (src--*.txt). OUT gets crate/, oracle_run, oracle_calls, oracle_check and
-oracle_bench. CRATES is a folder of vendored crates with num-complex, by default that of Debian's packages.
+RUST is the folder of the Rust text (src--*.txt). OUT gets crate/, oracle_run, oracle_calls and oracle_check.
+CRATES is a folder of vendored crates with num-complex, by default that of Debian's packages.
 """
 import os, re, shutil, subprocess, sys
 
@@ -179,7 +179,7 @@ w("src/mps/mod.rs", gen_mod)
 w("src/mps/svd.rs", gen_svd)
 w("src/gates.rs", gen_gates)
 w("src/limits.rs", gen_limits)
-for f in ("lib.rs", "surround.rs", "backend.rs", "error.rs", "oracle_run.rs", "oracle_calls.rs", "oracle_check.rs", "oracle_bench.rs"):
+for f in ("lib.rs", "surround.rs", "backend.rs", "error.rs", "oracle_run.rs", "oracle_calls.rs", "oracle_check.rs"):
     shutil.copy(os.path.join(HERE, "hand", f), os.path.join(CRATE, "src", f))
 shutil.copy(os.path.join(HERE, "hand", "access.rs"), os.path.join(CRATE, "src", "mps", "access.rs"))
 w("Cargo.toml", """[package]
@@ -201,9 +201,6 @@ path = "src/oracle_calls.rs"
 [[bin]]
 name = "oracle_check"
 path = "src/oracle_check.rs"
-[[bin]]
-name = "oracle_bench"
-path = "src/oracle_bench.rs"
 
 [dependencies]
 num-complex = "0.4"
@@ -226,6 +223,6 @@ for prof in ("release", "checked"):
         sys.exit(r.returncode)
 for b in ("oracle_run", "oracle_calls"):
     shutil.copy(os.path.join(CRATE, "target", "checked", b), os.path.join(OUT, b + "_checked"))
-for b in ("oracle_run", "oracle_calls", "oracle_check", "oracle_bench"):
+for b in ("oracle_run", "oracle_calls", "oracle_check"):
     shutil.copy(os.path.join(CRATE, "target", "release", b), os.path.join(OUT, b))
 print("built", OUT + "/oracle_run")

@@ -1,3 +1,4 @@
--- What one record of a run does, and the laws by which the functions meet it.
+-- What one record of a run does, the laws by which the functions meet it, and document 01's examples.
 pub mod Session
 pub mod Steps
+pub mod Worked

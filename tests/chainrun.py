@@ -1,0 +1,98 @@
+#!/usr/bin/env python3
+"""Runs target/bin/chainrun on the streams of the stored list, whole and in pieces, and on the cases that document 01
+names. The lines it has to print are the oracle's (crates/replay/stdout). Prints nothing unless something differs."""
+import pathlib
+import struct
+import subprocess
+import sys
+
+TOP = pathlib.Path(__file__).resolve().parent.parent
+CHAINRUN = TOP / "target/bin/chainrun"
+WHOLE = bytes.fromhex("15000100020205" + "00" * 16 + "05000300000101" + "040004000000")
+START = WHOLE[:23]
+REFUSED_START = START[:5] + b"\0" + START[6:]
+# a record of each kind but start, as it may follow START
+RECORDS = [
+    struct.pack("<HHBB32d", 260, 2, 0, 1, *[1.0 if k % 10 == 0 else 0.0 for k in range(32)]),
+    struct.pack("<HHBBB", 5, 3, 0, 1, 1),
+    struct.pack("<HHBB", 4, 4, 0, 0),
+    struct.pack("<HHBBd", 12, 5, 0, 0, 0.5),
+    struct.pack("<HHBd", 11, 6, 0, 0.5),
+]
+
+
+def lines(data):
+    p = subprocess.run([CHAINRUN], input=data, stdout=subprocess.PIPE, timeout=10)
+    return p.stdout.decode().splitlines() if p.returncode == 0 else [f"status {p.returncode}"]
+
+
+def in_pieces(data):
+    with subprocess.Popen([CHAINRUN], stdin=subprocess.PIPE, stdout=subprocess.PIPE) as p:
+        try:
+            for k in range(len(data)):
+                p.stdin.write(data[k : k + 1])
+                p.stdin.flush()
+            p.stdin.close()
+        except BrokenPipeError:
+            pass
+        return p.stdout.read().decode().splitlines()
+
+
+def longer(record):
+    """The record with one byte more, its length field too."""
+    (size,) = struct.unpack_from("<H", record)
+    return struct.pack("<H", size + 1) + record[2:] + b"\0"
+
+
+def shorter(record):
+    (size,) = struct.unpack_from("<H", record)
+    return struct.pack("<H", size - 1) + record[2:-1]
+
+
+def document_cases():
+    stop = "0 8"
+    yield "the whole case", WHOLE, ["1 0", "3 0", "4 0 3FF0000000000000"]
+    yield "nothing", b"", []
+    for name, data in [("kind 9", b"\2\0\x09\0"), ("one byte", b"\2"), ("length 0", b"\0\0"), ("length 1", b"\1\0\1")]:
+        yield name, data, [stop]
+        yield f"{name} after a start", START + data, ["1 0", stop]
+    yield "start one byte long", longer(START), [stop]
+    yield "start one byte short", shorter(START), [stop]
+    for record in RECORDS:
+        kind = record[2]
+        yield f"kind {kind} one byte long", START + longer(record), ["1 0", stop]
+        yield f"kind {kind} one byte short", START + shorter(record), ["1 0", stop]
+        yield f"kind {kind} cut off", START + record[:-1], ["1 0", stop]
+        yield f"kind {kind} before a start", record, [stop]
+    yield "a start after a refused one", REFUSED_START + START, ["1 1", "1 0"]
+    yield "a start after an accepted one", START + START, ["1 0", stop]
+
+
+def stored_cases():
+    data, at, streams = (TOP / "crates/replay/stdin").read_bytes(), 0, []
+    while at < len(data):
+        (size,) = struct.unpack_from("<I", data, at)
+        streams.append(data[at + 4 : at + 4 + size])
+        at += 4 + size
+    answers = []
+    for line in (TOP / "crates/replay/stdout").read_text().splitlines():
+        if line.startswith("stream "):
+            answers.append([])
+        elif line[0] != "#":
+            answers[-1].append(line)
+    for k, (stream, want) in enumerate(zip(streams, answers, strict=True)):
+        yield f"stream {k}", stream, want
+
+
+faults = []
+for name, data, want in [*document_cases(), *stored_cases()]:
+    got = lines(data)
+    if got != want:
+        faults.append(f"{name}: {got}, and not {want}")
+for name, data, want in document_cases():
+    got = in_pieces(data)
+    if got != want:
+        faults.append(f"{name}, byte by byte: {got}, and not {want}")
+for f in faults[:20]:
+    print(f)
+sys.exit(1 if faults else 0)
