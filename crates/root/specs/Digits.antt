@@ -34,6 +34,14 @@ zero-rest q t h = omega arith
 one-rest : (q r d : ℕ) → r ≤ 2 * q → d ≤ 3 → 4 * r + d - (4 * q + 1) ≤ 2 * (2 * q + 1)
 one-rest q r d h k = omega arith
 
+-- what is left by a digit b
+pub taken : (d t b : ℕ) → b ≡ cond (leb d t) 1 0 → (b * d ≤ d) × (b * d ≤ t) × (t - b * d ≡ cond (leb d t) (t - d) t)
+taken d t b e = by (leb d t) (leb→le d t) e
+  where
+    by : (c : Bool) → (T c → d ≤ t) → b ≡ cond c 1 0 → (b * d ≤ d) × (b * d ≤ t) × (t - b * d ≡ cond c (t - d) t)
+    by true f e = let l = f tt in rw e (omega arith, omega arith, ap (λ (x : ℕ). t - x) (one-mul d))
+    by false f e = rw e (omega arith, omega arith, omega arith)
+
 -- ---- The number whose root is found is what was passed, q * q + r, and then k pairs of digits, a number ρ that s holds at its top: ρ / 4 ^ k = s / 2 ^ 64.
 
 abbrev Finds : ℕ → Type 0
@@ -115,20 +123,25 @@ module _ (k s r q : ℕ) (more : k ≡ 0 → ⊥) where
       halved : (A : ℕ) → suc q * (A * 2) ≤ 2 ^ 54 → (suc (2 * q) * A ≤ 2 ^ 54) × (suc (2 * q + 1) * A ≤ 2 ^ 54)
       halved A h = omega arith
 
-  pub digit-zero : 4 * r + s / 2 ^ 62 < 4 * q + 1 → digitsOf k s r q ≡ digitsOf (k - 1) (s * 2 ^ 2 % 2 ^ 64) (4 * r + s / 2 ^ 62) (2 * q)
+  -- what comes in, what can be taken off it, and whether it can
+  abbrev t : ℕ
+  t = 4 * r + s / 2 ^ 62
+
+  abbrev d : ℕ
+  d = 4 * q + 1
+
+  -- one step: the digit, and what is left
+  pub digit-next : digitsOf k s r q ≡ digitsOf (k - 1) (s * 2 ^ 2 % 2 ^ 64) (cond (leb d t) (t - d) t) (2 * q + cond (leb d t) 1 0)
   unfolding digitsOf
-  digit-zero h =
-      ap (λ (x : ℕ). digitsOf x s r q) (sym after)
-      ∙ ap (λ (b : Bool). cond b (digitsOf (k - 1) (s * 2 ^ 2 % 2 ^ 64) (4 * r + s / 2 ^ 62 - (4 * q + 1)) (2 * q + 1)) (digitsOf (k - 1) (s * 2 ^ 2 % 2 ^ 64) (4 * r + s / 2 ^ 62) (2 * q))) (is-false (leb (4 * q + 1) (4 * r + s / 2 ^ 62)) (lt→nleb (4 * q + 1) (4 * r + s / 2 ^ 62) h))
+  digit-next = ap (λ (x : ℕ). digitsOf x s r q) (sym after) ∙ by (leb d t)
+    where
+      by : (b : Bool) → cond b (digitsOf (k - 1) (s * 2 ^ 2 % 2 ^ 64) (t - d) (2 * q + 1)) (digitsOf (k - 1) (s * 2 ^ 2 % 2 ^ 64) t (2 * q)) ≡ digitsOf (k - 1) (s * 2 ^ 2 % 2 ^ 64) (cond b (t - d) t) (2 * q + cond b 1 0)
+      by true = refl
+      by false = let e : 2 * q ≡ 2 * q + 0 = omega arith in ap (digitsOf (k - 1) (s * 2 ^ 2 % 2 ^ 64) t) e
 
-  pub digit-one : 4 * q + 1 ≤ 4 * r + s / 2 ^ 62 → digitsOf k s r q ≡ digitsOf (k - 1) (s * 2 ^ 2 % 2 ^ 64) (4 * r + s / 2 ^ 62 - (4 * q + 1)) (2 * q + 1)
-  unfolding digitsOf
-  digit-one h =
-      ap (λ (x : ℕ). digitsOf x s r q) (sym after)
-      ∙ ap (λ (b : Bool). cond b (digitsOf (k - 1) (s * 2 ^ 2 % 2 ^ 64) (4 * r + s / 2 ^ 62 - (4 * q + 1)) (2 * q + 1)) (digitsOf (k - 1) (s * 2 ^ 2 % 2 ^ 64) (4 * r + s / 2 ^ 62) (2 * q))) (is-true (leb (4 * q + 1) (4 * r + s / 2 ^ 62)) (le→leb (4 * q + 1) (4 * r + s / 2 ^ 62) h))
-
-  pub room-zero : Room k r q → 4 * r + s / 2 ^ 62 < 4 * q + 1 → Room (k - 1) (4 * r + s / 2 ^ 62) (2 * q)
-  room-zero R h = record { digits = room-both R .0; rest = zero-rest q (4 * r + s / 2 ^ 62) h }
-
-  pub room-one : s < 2 ^ 64 → Room k r q → Room (k - 1) (4 * r + s / 2 ^ 62 - (4 * q + 1)) (2 * q + 1)
-  room-one h R = record { digits = room-both R .1; rest = one-rest q r (s / 2 ^ 62) (R .rest) (digit-le s h) }
+  pub room-next : s < 2 ^ 64 → Room k r q → Room (k - 1) (cond (leb d t) (t - d) t) (2 * q + cond (leb d t) 1 0)
+  room-next h R = by (leb d t) (nleb→lt d t)
+    where
+      by : (b : Bool) → (T (not b) → t < d) → Room (k - 1) (cond b (t - d) t) (2 * q + cond b 1 0)
+      by true f = record { digits = room-both R .1; rest = one-rest q r (s / 2 ^ 62) (R .rest) (digit-le s h) }
+      by false f = let e : 2 * q ≡ 2 * q + 0 = omega arith in subst (λ (x : ℕ). Room (k - 1) t x) e (record { digits = room-both R .0; rest = zero-rest q t (f tt) })

@@ -3,12 +3,30 @@
 use complex::Complex;
 use complex::norm_sqr;
 ghost use mathlib.Core.Path.{_≡_};
-ghost use Prim.Native.Nat.{_^_, _≤_, _<_};
+ghost use mathlib.Core.Bool.{cond};
+ghost use Prim.Native.Nat.{_-_, _^_, _≤_, _<_};
+ghost use lib.Dec.{leb};
 ghost use lib.Ieee.{binary64, ofBits};
 ghost use Rattle.root.specs.Root.{rootOf};
 ghost use Rattle.root.specs.Norm.{normOf};
 ghost use Rattle.root.specs.Digits.{Room, digitsOf};
 ghost use Rattle.root.specs.Parts.{fromParts};
+
+// The next digit of the root: 1 where d can be taken off t. It is a number and not a branch, since nothing foretells it.
+fn digit(t: u64, d: u64) -> u64
+    ensures { λ b. ⌜ b ≡ cond (leb d t) 1 0 ⌝ }
+    ensures { λ b. ⌜ b ≤ 1 ⌝ }
+{
+    if t < d { 0 } else { 1 }
+}
+
+// What is left of t where the digit is b.
+fn left(t: u64, d: u64, b: u64) -> u64
+    requires { ⌜ b ≡ cond (leb d t) 1 0 ⌝ }
+    ensures { λ r. ⌜ r ≡ cond (leb d t) (t - d) t ⌝ }
+{
+    t - b * d
+}
 
 // The root's digits, one a call: q holds those found, r what the number's digits so far are above
 // q * q, and s the number's next digits, at its top. k digits are still to be found.
@@ -22,11 +40,8 @@ fn digits(k: u64, s: u64, r: u64, q: u64) -> u64
     }
     let t = 4 * r + (s >> 62);
     let d = 4 * q + 1;
-    if t < d {
-        digits(k - 1, s << 2, t, 2 * q)
-    } else {
-        digits(k - 1, s << 2, t - d, 2 * q + 1)
-    }
+    let b = digit(t, d);
+    digits(k - 1, s << 2, left(t, d, b), 2 * q + b)
 }
 
 // The root of the number whose first 53 binary digits are c, and whose length is p, in units of
