@@ -16,7 +16,7 @@ use lib.Ieee.Bits.{is-true, is-false, cond-no, ofBits-toBits}
 use lib.Ieee.Exact.{HasValue, odd-sign}
 use lib.Ieee.Positive.{positive-of-value}
 use Rattle.root.specs.Units.{units-of-value}
-use Rattle.root.specs.Root.{rootOf, rootOfUnits, root-units, root-nan, root-inf}
+use Rattle.root.specs.Root.{rootOf, rootOfUnits, root-units, root-nan, root-inf, root-oneF}
 use Rattle.root.specs.Parts.{Parts, fromParts, root-parts}
 
 -- ---- a pattern's fields
@@ -129,7 +129,7 @@ module _ (b : ℕ) (p : 0 < b) (e : b / 2 ^ 52 ≡ 0) where
       ∙ root-parts t (64 - z) (t * 2 ^ (z - 11)) (subnormal-shift .parts)
       ∙ ap (λ (x : ℕ). fromParts (64 - z) x) (sym subnormal-word)
 
--- ---- a zero, the infinity or a NaN
+-- ---- a zero, 1, the infinity or a NaN
 
 pub zero-root : (b : ℕ) → b ≡ 0 → rootOf (ofBits binary64 b) ≡ ofBits binary64 b
 unfolding rootOf ofBits
@@ -138,6 +138,9 @@ zero-root b e = subst (λ (x : ℕ). rootOf (ofBits binary64 x) ≡ ofBits binar
 pub minus-zero-root : (b : ℕ) → b ≡ 2 ^ 63 → rootOf (ofBits binary64 b) ≡ ofBits binary64 b
 unfolding rootOf ofBits
 minus-zero-root b e = subst (λ (x : ℕ). rootOf (ofBits binary64 x) ≡ ofBits binary64 x) (sym e) refl
+
+pub one-root : (b : ℕ) → b ≡ 0x3FF0_0000_0000_0000 → rootOf (ofBits binary64 b) ≡ ofBits binary64 b
+one-root b e = subst (λ (x : ℕ). rootOf (ofBits binary64 x) ≡ ofBits binary64 x) (sym e) root-oneF
 
 pub top-root : (b : ℕ) → 0x7FF0_0000_0000_0000 ≤ b → b < 2 ^ 63 → rootOf (ofBits binary64 b) ≡ ofBits binary64 b
 top-root b h k = subst (λ (v : Float). rootOf v ≡ v) (sym (of-fields b k ∙ ap (λ (x : ℕ). ofFields binary64 false x (b % 2 ^ 52)) (field b h k))) (itself (at-ones false (b % 2 ^ 52)))

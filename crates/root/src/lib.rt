@@ -73,7 +73,7 @@ fn positive(b: u64) -> f64
 }
 
 // The root of x. A zero is its own root, with its sign; of anything else below zero, and of a NaN, it
-// is a NaN.
+// is a NaN. 1 is its own root too, and is told apart since most roots on product states are of 1.
 pub fn root(x: f64) -> f64
     ensures { λ r. ⌜ r ≡ rootOf x ⌝ }
 {
@@ -91,6 +91,9 @@ pub fn root(x: f64) -> f64
         return 0.0 / 0.0;
     }
     if b >= 0x7ff0_0000_0000_0000 {
+        return x;
+    }
+    if b == 0x3ff0_0000_0000_0000 {
         return x;
     }
     positive(b)

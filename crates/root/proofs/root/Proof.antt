@@ -6,7 +6,7 @@ use lib.Ieee.{binary64, fits, toBits}
 use lib.Ieee.Bits.{ofBits-toBits, toBits-lt}
 use Rattle.root.specs.Root.{rootOf}
 use native.Mathlib.Omega.{arith}
-use Rattle.root.specs.Patterns.{not-nan, nan-root, by-pattern, same-by-pattern, no-root, zero-root, minus-zero-root, below-root, top-root}
+use Rattle.root.specs.Patterns.{not-nan, nan-root, by-pattern, same-by-pattern, no-root, zero-root, minus-zero-root, one-root, below-root, top-root}
 use Rattle.root.proofs.root.Statement.{statement}
 use Rattle.root.proofs.root.Tie as tie
 
@@ -32,11 +32,14 @@ returns-4 c = let s = c .before .before .before .before in no-root ∙ sym (by-p
 returns-5 : tie.Need-returns-5
 returns-5 c = let s = c .before .before .before .before .before in same-by-pattern (s .args .x) (held s) (top-root (toBits binary64 (s .args .x)) (c .if5 .taken) (omega (arith, c .before .if4 .left, c .before .before .if3 .left)))
 
+returns-6 : tie.Need-returns-6
+returns-6 c = let s = c .before .before .before .before .before .before in same-by-pattern (s .args .x) (held s) (one-root (toBits binary64 (s .args .x)) (c .if6 .taken))
+
 positive-requires : tie.Need-positive-requires
 positive-requires c κs = search needs
 
-returns-6 : tie.Need-returns-6
-returns-6 c = let s = c .before .before .before .before .before .before in c .positive .ensures ∙ ap rootOf (ofBits-toBits binary64 (s .args .x) (held s))
+returns-7 : tie.Need-returns-7
+returns-7 c = let s = c .before .before .before .before .before .before .before in c .positive .ensures ∙ ap rootOf (ofBits-toBits binary64 (s .args .x) (held s))
 
 pub root-spec : {M : Type 1} → statement M
 root-spec =
@@ -48,5 +51,6 @@ root-spec =
     returns-3
     returns-4
     returns-5
+    returns-6
     positive-requires
-    returns-6)
+    returns-7)
