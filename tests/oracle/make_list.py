@@ -19,17 +19,20 @@ oracle's walks are left out altogether.
          36   random complex gates, unitary, general and sparse
          40   gates of extreme magnitudes: 1e150, 1e-160, 1e300, subnormal, mixed
          16   amplitudes that become infinite or NaN: 7
-         32   truncation at D 1 to 4
+         38   truncation at D 1 to 4, values beside the resolution
+          8   searched for: a QR column whose third pass shows, environments with infinities beside zeros
+         39   every qubit read: columns that QR drops, equal singular values
+         24   Jacobi's rotations: parallel columns in blocks, pairs beside the tolerance
          30   workspace refusals: 6, at the first cut of a route or behind some of its swaps
          17   starts refused by 1 and 2, and the start after them
           3   calls refused by 4
           4   calls refused by 5
          84   streams that are cut off: one at every byte, one beside the fields of a gate
-         48   bad codes, bits, kinds and lengths, records before a start, a second start: 8
+         55   bad codes, bits, kinds and lengths, records before a start, a second start: 8
          12   boundary sizes: n 1, 32, 64, D 1 to 11, store and work just long enough or too short
          24   one qubit measured, reset and projected again and again
          32   epsilon and clamp, 0 and above
-        427   with 2,107 records: 1,768 accepted, 339 refused
+        511   with 2,584 records: 2,238 accepted, 346 refused
 """
 import pathlib
 import random
@@ -120,6 +123,25 @@ class Draw(random.Random):
         for _ in range(self.randrange(1, 5)):
             g[self.randrange(16)] = (self.choice([1.0, -1.0, 0.5, self.small()]), self.choice([0.0, -0.0, 1.0]))
         return g
+
+    def blocks(self):
+        """Two blocks on the diagonal, each of rank 1: columns that are parallel inside a block and orthogonal across."""
+        g = [(0.0, 0.0)] * 16
+        for b in (0, 2):
+            rows, columns = [self.small(), self.small()], [(self.small(), self.small()), (self.small(), self.small())]
+            for r in range(2):
+                for c in range(2):
+                    g[4 * (b + r) + b + c] = (rows[r] * columns[c][0], rows[r] * columns[c][1])
+        return g
+
+    def beside_skip(self):
+        """A gate after which two columns of a fresh pair are orthogonal within an ulp of Jacobi's tolerance."""
+        while True:
+            a, c = self.uniform(0.5, 2.0), self.uniform(0.5, 2.0)
+            b = 1e-15 * c * (1 + self.randrange(-8, 8) * 2.0**-52)
+            pp, qq, square = a * a, b * b + c * c, (a * b) * (a * b)
+            if (square <= 1e-15 * 1e-15 * pp * qq) != (square <= 1e-15 * pp * 1e-15 * qq):
+                return [(a, 0.0) if k == 0 else (b, 0.0) if k == 4 else (c, 0.0) if k == 12 else (0.0, 0.0) for k in range(16)]
 
     def scaled(self, size):
         g = self.choice([self.unitary, self.general])()
@@ -235,6 +257,76 @@ def truncations(r):
             add("truncation", f"D {d}, {k}: n {n}", records + [r.outcome(n)])
 
 
+def every_qubit_read(r):
+    """Pairs with amplitudes that are exactly zero, every qubit read in some order: columns that a centre move drops."""
+    for k in range(20):
+        n = r.choice([2, 3, 4])
+        records = [start(n, r.choice([2, 3]), 63)]
+        for _ in range(r.choice([1, 2])):
+            records.append(gate(*r.pair(n), r.choice([lambda: E, r.sparse, r.phases])()))
+        for q in r.sample(range(n), n):
+            records.append(r.choice([project(q, 1), project(q, r.randrange(2)), measure(q, q, r.draw()), reset(q, r.draw())]))
+        add("every qubit read", f"{k}: n {n}", records + [gate(*r.pair(n), r.unitary())])
+    # two pairs, each across the middle bond: after a projection its columns are parallel in twos
+    for k in range(16):
+        records = [start(4, 4, 63), gate(0, 1, r.unitary()), gate(2, 3, r.unitary()), named(1, 2, SWAP)]
+        first, second = r.choice([(1, 2), (2, 1)])
+        records += [project(first, r.randrange(2)), measure(second, 0, r.draw()), project(r.choice([0, 3]), r.randrange(2))]
+        add("every qubit read", f"pairs across the middle {k}", records)
+    for d in (2, 3, 4):
+        records = [start(4, d), gate(0, 1, E), gate(2, 3, E), named(1, 2, SWAP), project(1, 1), project(2, 1), gate(0, 3, E)]
+        add("every qubit read", f"four equal values, D {d}", records)
+
+
+def jacobi_cases(r):
+    """Cuts of four columns in two blocks, and pairs that Jacobi's tolerance just skips or just rotates."""
+    for k in range(20):
+        records = [start(4, r.choice([2, 3, 4]), 63, r.choice([0.0, 1e-12]))]
+        records += [gate(0, 1, r.choice([r.unitary, r.general, lambda: E])()), gate(2, 3, r.choice([r.unitary, lambda: E])())]
+        records += [gate(1, 2, r.blocks()), gate(*r.choice([(1, 2), (2, 1)]), r.choice([r.blocks, r.phases])())]
+        add("Jacobi's rotations", f"blocks {k}", records)
+    for k in range(4):
+        add("Jacobi's rotations", f"tolerance {k}", [start(2, 2), gate(0, 1, r.beside_skip()), r.outcome(2)])
+
+
+def third_pass(seed):
+    """Gates on neighbours, swaps and outcomes; with some seeds a QR column comes up whose third pass shows."""
+    r = Draw(f"third pass {seed}")
+    n, d = r.choice([4, 5, 6]), r.choice([3, 4])
+    gates = [r.unitary, r.general, r.sparse, r.blocks, lambda: E]
+    records = [start(n, d)]
+    for _ in range(r.randint(5, 9)):
+        a = r.randrange(n - 1)
+        records.append(r.outcome(n) if r.random() < 0.25 else named(a, a + 1, SWAP) if r.random() < 0.2 else gate(a, a + 1, r.choice(gates)()))
+    return records
+
+
+def infinite_environment(seed):
+    """Two parts of a chain, each of finite weight: together the environments overflow; with some seeds beside zeros."""
+    r = Draw(f"infinite environment {seed}")
+    grown = lambda g: [(1e40 * a, 1e40 * b) for a, b in g]
+    records = [start(6, 4), gate(*r.choice([(0, 1), (1, 0)]), r.scaled(1e130))]
+    for a in (2, 4, 3, r.choice([2, 3, 4])):
+        g = r.choice([lambda: E, r.sparse, r.blocks, r.phases])()
+        records.append(named(a, a + 1, SWAP) if r.random() < 0.3 else gate(a, a + 1, grown(g) if r.random() < 0.4 else g))
+    return records
+
+
+def searched():
+    """Streams of the two kinds above with the seeds that a search found."""
+    for seed in (60, 126, 1422, 6457):
+        add("searched for", f"third pass {seed}", third_pass(seed))
+    for seed in (152, 380, 1182, 1744):
+        add("searched for", f"infinite environment {seed}", infinite_environment(seed))
+
+
+def resolutions(r):
+    """A value below epsilon and beside 4 * 2^-52 of the first: whether a centre is established for the cut."""
+    for x in (2.0**-49, 2.0**-50, 2.0**-50 * (1 + 2.0**-52), 3 * 2.0**-52, 2.0**-51, 2.0**-52):
+        g = [(1.0, 0.0) if k == 0 else (x, 0.0) if k == 12 else (0.0, 0.0) for k in range(16)]
+        add("truncation", f"resolution {x.hex()}", [start(3, 2, 63, 1e-12), gate(0, 1, g), gate(1, 2, g), gate(2, 1, r.unitary())])
+
+
 def workspaces(r):
     """Bonds grow under a small exponent until a cut or a swap on the way is refused by 6."""
     for k in range(30):
@@ -291,7 +383,8 @@ def malformed():
     for bit in (2, 255):
         add("bad codes, kinds and lengths", f"bit {bit}", head + [project(0, bit)] + last, ["1 0", "3 0", "0 8"])
     for kind in (0, 7, 9, 255, 256, 257, 65535):
-        add("bad codes, kinds and lengths", f"kind {kind}", head + [record(kind, bytes(3))] + last, ["1 0", "3 0", "0 8"])
+        for body in (0, 3):
+            add("bad codes, kinds and lengths", f"kind {kind}, body {body}", head + [record(kind, bytes(body))] + last, ["1 0", "3 0", "0 8"])
     sizes = {1: 19, 2: 258, 3: 3, 4: 2, 5: 10, 6: 9}
     for kind, size in sizes.items():
         for body in (0, size - 1, size + 1):
@@ -350,6 +443,10 @@ def make_streams():
     magnitudes(draw("magnitudes"))
     not_a_number(draw("not a number"))
     truncations(draw("truncations"))
+    resolutions(draw("resolutions"))
+    searched()
+    every_qubit_read(draw("every qubit read"))
+    jacobi_cases(draw("jacobi"))
     workspaces(draw("workspaces"))
     starts_refused()
     calls_refused(draw("refusals"))

@@ -22,7 +22,7 @@ import make_list
 
 TOP = pathlib.Path(__file__).resolve().parent.parent.parent
 CHAINRUN, REPLAY = TOP / "target/bin/chainrun", TOP / "target/bin/replay"
-FIXED = {"run cases", "refusals 1 and 2", "bad codes, kinds and lengths"}
+FIXED = {"run cases", "refusals 1 and 2", "bad codes, kinds and lengths", "searched for"}
 
 
 def run(words, data):
