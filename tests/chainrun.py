@@ -1,10 +1,14 @@
 #!/usr/bin/env python3
 """Runs target/bin/chainrun on the streams of the stored list, whole and in pieces, and on the cases that document 01
-names. The lines it has to print are the oracle's (crates/replay/stdout). Prints nothing unless something differs."""
+names; the lines it has to print are the oracle's (crates/replay/stdout). Then on the sample stream, against what README
+shows. Prints nothing unless something differs."""
 import pathlib
+import re
 import struct
 import subprocess
 import sys
+
+import stored
 
 TOP = pathlib.Path(__file__).resolve().parent.parent
 CHAINRUN = TOP / "target/bin/chainrun"
@@ -69,23 +73,19 @@ def document_cases():
 
 
 def stored_cases():
-    data, at, streams = (TOP / "crates/replay/stdin").read_bytes(), 0, []
-    while at < len(data):
-        (size,) = struct.unpack_from("<I", data, at)
-        streams.append(data[at + 4 : at + 4 + size])
-        at += 4 + size
-    answers = []
-    for line in (TOP / "crates/replay/stdout").read_text().splitlines():
-        if line.startswith("stream "):
-            answers.append([])
-        elif line[0] != "#":
-            answers[-1].append(line)
-    for k, (stream, want) in enumerate(zip(streams, answers, strict=True)):
-        yield f"stream {k}", stream, want
+    sections = stored.sections((stored.REPLAY / "stdout").read_text())
+    for k, (stream, section) in enumerate(zip(stored.streams(), sections, strict=True)):
+        yield f"stream {k}", stream, stored.answers(section)
+
+
+def sample_case():
+    """README shows what the sample stream gives, each line with its meaning behind it."""
+    shown = re.findall(r"^    (\d \d(?: [0-9A-F]+)?)  ", (TOP / "README.md").read_text(), re.M)
+    yield "samples/ghz.run", (TOP / "samples/ghz.run").read_bytes(), shown
 
 
 faults = []
-for name, data, want in [*document_cases(), *stored_cases()]:
+for name, data, want in [*document_cases(), *stored_cases(), *sample_case()]:
     got = lines(data)
     if got != want:
         faults.append(f"{name}: {got}, and not {want}")

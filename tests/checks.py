@@ -133,6 +133,11 @@ def no_kernel_takes_the_record():
     return [f"{c} names the chain record" for c in kernels if re.search(r"\bChain\b", (CRATES / c / "src/lib.rt").read_text())]
 
 
+def refusals_page_shows_what_runs():
+    printed = "".join(f"    {line}\n" for line in (CRATES / "refusal_table/stdout").read_text().splitlines())
+    return [] if printed in (TOP / "docs/REFUSALS.md").read_text() else ["docs/REFUSALS.md does not show crates/refusal_table/stdout"]
+
+
 def nothing_is_left_open():
     out = []
     for path in sorted(CRATES.glob("**/*.antt")):
@@ -151,6 +156,7 @@ check("README maps every crate", readme_maps_every_crate(crates))
 check("chain offers the calls alone", chain_offers_the_calls_alone())
 check("the required forms are there", required_forms_are_there())
 check("kernels take slices and numbers", no_kernel_takes_the_record())
+check("docs/REFUSALS.md shows what its program prints", refusals_page_shows_what_runs())
 check("no proof has a hole", nothing_is_left_open())
 for f in faults:
     print(f)

@@ -19,7 +19,7 @@ step 'every crate from nothing, every must-fail edit, every program (rt ci)'
 rt ci
 
 # An edit that only makes a proof file unfit for the code shows nothing.
-if grep -l 'has no `Need-' target/must-fail/*/*/.log; then
+if grep -lE 'has no (`Need-|field `before`)' target/must-fail/*/*/.log; then
     echo 'the edits above are refused for their shape, and not because a fact fails'
     exit 1
 fi

@@ -21,6 +21,9 @@ import sys
 import make_list
 
 TOP = pathlib.Path(__file__).resolve().parent.parent.parent
+sys.path.insert(0, str(TOP / "tests"))
+import stored
+
 CHAINRUN, REPLAY = TOP / "target/bin/chainrun", TOP / "target/bin/replay"
 FIXED = {"run cases", "refusals 1 and 2", "bad codes, kinds and lengths", "searched for"}
 
@@ -28,17 +31,6 @@ FIXED = {"run cases", "refusals 1 and 2", "bad codes, kinds and lengths", "searc
 def run(words, data):
     p = subprocess.run(words, input=data, stdout=subprocess.PIPE, stderr=subprocess.PIPE, timeout=10)
     return p.returncode, p.stdout
-
-
-def sections(text):
-    """What replay wrote, stream by stream."""
-    out = []
-    for line in text.decode().splitlines():
-        if line.startswith("stream "):
-            out.append([])
-        else:
-            out[-1].append(line)
-    return out
 
 
 def one_seed(job):
@@ -49,9 +41,9 @@ def one_seed(job):
     drawn = [(c, n, data) for c, n, data, _, _ in make_list.streams if c not in FIXED]
     _, text = run([REPLAY], b"".join(struct.pack("<I", len(d)) + d for _, _, d in drawn))
     count, faults = collections.Counter(), []
-    for (category, name, data), states in zip(drawn, sections(text), strict=True):
+    for (category, name, data), states in zip(drawn, stored.sections(text.decode()), strict=True):
         want = make_list.kept(make_list.ask(oracle, data))
-        lines = [x for x in want if x[0] != "#"]
+        lines = stored.answers(want)
         count[category] += 1
         count["records"] += len(lines)
         if states != want:
@@ -59,15 +51,6 @@ def one_seed(job):
         if run([CHAINRUN], data)[1].decode().splitlines() != lines:
             faults.append(f"seed {seed}, {category}, {name}: chainrun's lines differ")
     return count, faults
-
-
-def stored():
-    data, at, out = (TOP / "crates/replay/stdin").read_bytes(), 0, []
-    while at < len(data):
-        (size,) = struct.unpack_from("<I", data, at)
-        out.append(data[at + 4 : at + 4 + size])
-        at += 4 + size
-    return [s for s in out if s]
 
 
 def changed(r, stream):
@@ -88,7 +71,7 @@ def changed(r, stream):
 
 def fuzzed(job):
     oracle, seed, count = job
-    r, streams = random.Random(seed), stored()
+    r, streams = random.Random(seed), [s for s in stored.streams() if s]
     faults, ends = [], collections.Counter()
     for k in range(count):
         data = changed(r, r.choice(streams))
