@@ -11,7 +11,6 @@ use lib.Seq.{take-at, drop-at}
 use lib.Ieee.{Float}
 use Rattle.complex.specs.Complex.{zeroF}
 use Rattle.complex.specs.declared.Complex.{Complex}
-use Rattle.gates.specs.Finite.{allFinite}
 use Rattle.gates.specs.Named.{matrixOf}
 use Rattle.gates.specs.declared.NamedGate.{NamedGate}
 use Rattle.model.specs.declared.Center.{Center}
@@ -37,7 +36,7 @@ use Rattle.model.specs.Statements.Soundness.{Sound}
 use Rattle.model.specs.Laws.MoveLaws.{Apart, apart-at, apart-then}
 use Rattle.model.specs.Laws.RunLaws.{Room, Reach, Within, within-room, readied-within, route-spans, Unmoved, runSteps-within, runSteps-unmoved, projectedAt-apart, resetAt-apart}
 use Rattle.model.specs.Laws.Labels.{sound-maps, sites-apart}
-use Rattle.model.specs.Laws.Refusals.{project-passes, measure-passes, reset-passes, above-zero, early-late, applied-number, decides-short, firstOf-least, project-accepted}
+use Rattle.model.specs.Laws.Refusals.{project-passes, measure-passes, reset-passes, above-zero, early-late, applied-number, decides-short, firstOf-least, gate-least, project-accepted}
 use Rattle.model.specs.Laws.SoundKept.{AcceptedGate, gate-accepted}
 use Rattle.model.specs.Laws.CutEnds.{Attempted, attempted, above, nan, again, stored, stepped-number}
 use Rattle.model.specs.Laws.Tests.{by-test, decides-false, either-way}
@@ -47,10 +46,10 @@ use Rattle.model.specs.Laws.Tests.{by-test, decides-false, either-way}
 attempt-late : (gate : List (List Complex)) (k : ℕ) (s : State) → Late (attempt gate k s .refused)
 attempt-late gate k s = cases (attempted gate k s)
   where
-    cases : {keeps : Bool} {p : Rattle.model.specs.Moves.Prepared} → Attempted gate k s keeps p (attempt gate k s) → Late (attempt gate k s .refused)
+    cases : Attempted gate k s (attempt gate k s) → Late (attempt gate k s .refused)
     cases (above a e) = rw e (inr (omega arith))
     cases (nan a n e) = rw e (inr (omega arith))
-    cases (again a n b e) = rw e (inl refl)
+    cases (again a m e) = rw e (inl refl)
     cases (stored a n m e) = rw e (inl refl)
 
 adjacent-late : (gate : List (List Complex)) (k : ℕ) (s : State) → Late (adjacent gate k s .refused)
@@ -261,9 +260,8 @@ module _ (s : State) (work : List Float) where
     unfolding gateCall
     gate-leaves gate =
         let r = gateRun gate q0 q1 s in
-        let four = outside (s .chain) q0 || outside (s .chain) q1 || eqb q0 q1 in
         call-leaves viewApplied s work (min p q) (max p q) (gateRefusal s work q0 q1 gate) (appliedOf (r .refused)) (applied.Refused (gateRefusal s work q0 q1 gate)) (r .state)
-        (small four (not (allFinite gate))) refl (rw (applied-number (r .refused)) (gateRun-late gate q0 q1 s))
+        (gate-least s work q0 q1 gate) refl (rw (applied-number (r .refused)) (gateRun-late gate q0 q1 s))
         (λ e. let x = gate-accepted s work q0 q1 gate e in (not-short s work (x .long) .scratch, gate-rewrites gate x .apart))
 
     pub gate-unmoved : (gate : List (List Complex)) →
@@ -272,6 +270,12 @@ module _ (s : State) (work : List Float) where
     gate-unmoved gate =
         by-test (λ (a : After Applied). a .chain .center ≡ Unknown → StoreLeft (s .chain .«num_qubits») (s .chain .«max_bond_dim») (min p q) (max p q) (s .store) (a .store))
         (eqb (gateRefusal s work q0 q1 gate) 0) _ _ (λ e c. apart-left (run-unmoved gate (gate-accepted s work q0 q1 gate e) .apart c)) (λ e c. record { slots = λ j o. refl; past = refl; long = refl })
+
+    pub named-unmoved : (name : NamedGate) →
+        (let a = namedGateCall s work q0 q1 name in
+        a .chain .center ≡ Unknown → StoreLeft (s .chain .«num_qubits») (s .chain .«max_bond_dim») (min p q) (max p q) (s .store) (a .store))
+    unfolding namedGateCall
+    named-unmoved name = gate-unmoved (matrixOf name)
 
     pub named-leaves : (name : NamedGate) → (let a = namedGateCall s work q0 q1 name in Leaves s work (min p q) (max p q) (viewApplied (a .answer) .number) a)
     unfolding namedGateCall

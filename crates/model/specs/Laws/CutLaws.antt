@@ -1,5 +1,4 @@
--- The cut element by element: Θ as a sum over the middle bond, the gate on it, the matrix and its conjugate transpose, the four site fills, and the new bond.
--- (Vidal 2003, equations 8 to 12; Schollwöck 2011, 4.3.1 and 7.1.)
+-- The cut element by element, as `Statements/CutsAndMoves` states it: the matrix and its conjugate transpose, the four site fills, and the new bond.
 use Prim.Native.Nat.{ℕ, _+_, _*_, _≤_, _<_}
 use mathlib.Core.Path.{_≡_, refl, sym, ap, _∙_}
 use mathlib.Core.List.{List}
@@ -7,43 +6,27 @@ use native.Mathlib.Omega.{arith}
 use lib.ListN.{length}
 use lib.Seq.{getD-set-same}
 use lib.Ieee.{Float}
-use Rattle.complex.specs.Complex.{addC, mulC, conjC, scaleC, real, zeroC}
-use Rattle.complex.specs.Loops.{each, sumC}
+use Rattle.complex.specs.Complex.{mulC, conjC, scaleC, real}
+use Rattle.complex.specs.Loops.{each}
 use Rattle.complex.specs.Numbers.{at, numbers, length-numbers, at-numbers}
 use Rattle.complex.specs.Matrix.{rows, cell-below, length-rows, at-rows}
 use Rattle.complex.specs.declared.Complex.{Complex}
-use Rattle.gates.specs.Gate.{entry}
-use Rattle.model.specs.declared.Chain.{Chain}
-use Rattle.model.specs.Chain.{bondLeft, bondRight}
 use Rattle.model.specs.Slots.{State, amplitude}
-use Rattle.model.specs.Svd.{svd, values}
+use Rattle.model.specs.Svd.{values}
 use Rattle.model.specs.Truncation.{rank}
 use Rattle.model.specs.Cut.{Ran, adjacent}
-use Rattle.model.specs.Pair.{theta, gated, gatedTheta, matrixOf, adjointOf, pairSvd, isometrySite, scaledSite, vtSite, scaledVtSite}
-use Rattle.model.specs.Statements.Table.{preparedFor, rankOf}
-use Rattle.model.specs.Statements.Demand1Cuts.{madeIn, cutSvd}
+use Rattle.model.specs.Pair.{gated, gatedTheta, matrixOf, adjointOf, isometrySite, scaledSite, vtSite, scaledVtSite}
+use Rattle.model.specs.Statements.Table.{rankOf}
+use Rattle.model.specs.Statements.Pinned.{lastIn}
+use Rattle.model.specs.Statements.Demand1Cuts.{cutSvd}
 use Rattle.model.specs.Statements.Soundness.{Sound}
-use Rattle.model.specs.Laws.CutEnds.{cutAt, CutEnds, above, first-nan, second-nan, stored, adjacent-ends, made-narrowed}
+use Rattle.model.specs.Statements.CutsAndMoves.{thetaOf, gatedOf, Element, ElementLaw, Fills, FillLaw, Bond, BondLaw}
+use Rattle.model.specs.Laws.CutEnds.{cutAt, CutEnds, above, nan, stored, adjacent-ends, last-narrowed}
 
--- ---- formulas
-
--- Θ(a, i, j, b) = Σ_g left(a, i, g) right(g, j, b), added from g = 0 up
-pub theta-sum : (mid br : ℕ) (left right : List Float) (a i j b : ℕ)
-    → theta mid br left right a i j b ≡ sumC mid (λ g. mulC (amplitude left mid a i g) (amplitude right br g j b)) zeroC
-theta-sum mid br left right a i j b = refl
-
--- (UΘ)(i, j) = Σ U(2 i + j, 2 i' + j') Θ(i', j') over i' and j', added in the order 00, 01, 10, 11
-pub gated-sum : (gate : List (List Complex)) (th : ℕ → ℕ → Complex) (i j : ℕ)
-    → (let u : ℕ → Complex = entry gate (i * 2 + j) in
-    gated gate th i j ≡ addC (addC (addC (addC zeroC (mulC (u 0) (th 0 0))) (mulC (u 1) (th 0 1))) (mulC (u 2) (th 1 0))) (mulC (u 3) (th 1 1)))
+-- (UΘ)(i, j), the loop over i' and j' written out
+gated-sum : (gate : List (List Complex)) (th : ℕ → ℕ → Complex) (i j : ℕ) → gated gate th i j ≡ gatedOf gate th i j
 unfolding each
 gated-sum gate th i j = refl
-
--- the cut decomposes the matrix of the gate on Θ, of 2 bl rows and 2 br columns
-pub pair-svd : (clamp : Float) (bl mid br : ℕ) (gate : List (List Complex)) (left right : List Float)
-    → (let th = gatedTheta gate mid br left right in pairSvd clamp bl mid br gate left right ≡ svd clamp (2 * bl) (2 * br) (matrixOf bl br th) (adjointOf bl br th))
-unfolding pairSvd
-pair-svd clamp bl mid br gate left right = refl
 
 -- ---- the matrix, by columns: row 2 a + i and column j * br + b hold th a i j b
 
@@ -93,24 +76,14 @@ module _ (bl br : ℕ) (th : ℕ → ℕ → ℕ → ℕ → Complex) where
       ∙ at-rows br _ (λ j. length-numbers br (λ b. conjC (th a i j b))) 2 j b hj hb
       ∙ at-numbers br (λ b. conjC (th a i j b)) b hb)
 
--- ---- the element that a cut decomposes, in full: the gate's row 2 i + j times the four sums Θ(a, i', j', b)
+-- ---- the element that a cut decomposes
 
-module _ (gate : List (List Complex)) (bl mid br : ℕ) (left right : List Float) (a i j b : ℕ) (ha : a < bl) (hi : i < 2) (hj : j < 2) (hb : b < br) where
-  -- Θ(a, i', j', b) read off the two sites
-  abbrev sum : ℕ → ℕ → Complex
-  sum i' j' = sumC mid (λ g. mulC (at left (a * (2 * mid) + i' * mid + g)) (at right (g * (2 * br) + j' * br + b))) zeroC
-
-  abbrev u : ℕ → Complex
-  u c = entry gate (i * 2 + j) c
-
-  abbrev element : Complex
-  element = addC (addC (addC (addC zeroC (mulC (u 0) (sum 0 0))) (mulC (u 1) (sum 0 1))) (mulC (u 2) (sum 1 0))) (mulC (u 3) (sum 1 1))
-
-  pub pair-element : at (matrixOf bl br (gatedTheta gate mid br left right)) ((j * br + b) * (2 * bl) + (2 * a + i)) ≡ element
-  pair-element = at-matrixOf bl br (gatedTheta gate mid br left right) a i j b ha hi hj hb ∙ gated-sum gate sum i j
-
-  pub pair-element-adjoint : at (adjointOf bl br (gatedTheta gate mid br left right)) ((2 * a + i) * (2 * br) + (j * br + b)) ≡ conjC element
-  pair-element-adjoint = at-adjointOf bl br (gatedTheta gate mid br left right) a i j b ha hi hj hb ∙ ap conjC (gated-sum gate sum i j)
+pub element-law : ElementLaw
+unfolding ElementLaw
+element-law gate bl mid br left right a i j b ha hi hj hb =
+    let th = gatedTheta gate mid br left right in
+    let sum = gated-sum gate (thetaOf mid br left right a b) i j in
+    record { straight = at-matrixOf bl br th a i j b ha hi hj hb ∙ sum; adjoint = at-adjointOf bl br th a i j b ha hi hj hb ∙ ap conjC sum }
 
 -- ---- the four fills, by amplitude
 
@@ -167,29 +140,37 @@ module _ (chi br : ℕ) (vt : ℕ → ℕ → Complex) where
   unfolding scaledVtSite
   scaled-vt-amplitude s = right-amplitude chi br (λ g c. mulC (real (s g)) (vt g c))
 
+pub fill-law : FillLaw
+unfolding FillLaw
+fill-law bl br chi u vt s = record {
+  left = isometry-amplitude bl chi u;
+  left-scaled = scaled-amplitude bl chi u s;
+  right = vt-amplitude chi br vt;
+  right-scaled = scaled-vt-amplitude chi br vt s;
+}
+
 -- ---- the new bond is the rank that the rule keeps, in the records of both sites
 
--- the bond between sites k and k + 1 is b
-abbrev pub Bond : Chain → ℕ → ℕ → Type 0
-Bond c k b = (bondRight c k ≡ b) × (bondLeft c (k + 1) ≡ b)
-
 module _ (gate : List (List Complex)) (k : ℕ) (s : State) (h : Sound (s .chain)) (inside : k + 1 < s .chain .«num_qubits») where
-  stored-bond : Bond (cutAt gate k (madeIn gate k s) .chain) k (rankOf s (cutSvd gate k s))
+  stored-bond : Bond (cutAt gate k s .chain) k (rankOf s (cutSvd gate k s))
   stored-bond =
-      let t = preparedFor k (madeIn gate k s) .state in
+      let t = lastIn gate k s in
       let d = cutSvd gate k s in
-      let x = made-narrowed gate k s h inside in
+      let x = last-narrowed gate k s h inside in
       let e : rankOf t d ≡ rankOf s d = λ i. rank (x .rest .epsilon i) (x .rest .cap i) (values d) in
       let most : s .chain .«num_qubits» ≤ 64 = h .settings .qubits .1 in (
         getD-set-same (t .chain .«bond_right») k (rankOf t d) 0 (omega (arith, x .sound .sizes .rights)) ∙ e,
         getD-set-same (t .chain .«bond_left») (k + 1) (rankOf t d) 0 (omega (arith, x .sound .sizes .lefts)) ∙ e,
       )
 
-  pub cut-bond : adjacent gate k s .refused ≡ 0 → Bond (adjacent gate k s .state .chain) k (rankOf s (cutSvd gate k s))
+  cut-bond : adjacent gate k s .refused ≡ 0 → Bond (adjacent gate k s .state .chain) k (rankOf s (cutSvd gate k s))
   cut-bond z = cases (adjacent-ends gate k s h inside)
     where
       cases : CutEnds gate k s (adjacent gate k s) → Bond (adjacent gate k s .state .chain) k (rankOf s (cutSvd gate k s))
       cases (above a e) = absurd (omega (arith, sym z ∙ ap (λ (r : Ran). r .refused) e))
-      cases (first-nan a n e) = absurd (omega (arith, sym z ∙ ap (λ (r : Ran). r .refused) e))
-      cases (second-nan a n e) = absurd (omega (arith, sym z ∙ ap (λ (r : Ran). r .refused) e))
-      cases (stored a n n′ m e) = rw e stored-bond
+      cases (nan a t n e) = absurd (omega (arith, sym z ∙ ap (λ (r : Ran). r .refused) e))
+      cases (stored a n e) = rw e stored-bond
+
+pub bond-law : BondLaw
+unfolding BondLaw
+bond-law gate k s h inside z = cut-bond gate k s h inside z

@@ -1,15 +1,17 @@
 -- The discarded weight is the shares of the stored cuts, added from the left in the order of the cuts: the proof of (e). Other calls leave it, and the labels, as they were.
 use Prim.Native.Nat.{ℕ, _+_, _<_}
+use native.Mathlib.Omega.{arith}
 use mathlib.Core.Path.{_≡_, refl, sym, ap, _∙_, subst}
+use mathlib.Core.Logic.{inl, inr}
 use mathlib.Core.Bool.{Bool, true, false, cond}
 use mathlib.Core.List.{List, [], _∷_, _++_, foldl}
 use lib.Dec.{eqb}
-use borrow.Author.Tests.{eqb-false}
+use borrow.Author.Tests.{eqb-false, le-leb, lt-leb}
 use lib.Ieee.{Float, binary64, add}
 use Rattle.complex.specs.declared.Complex.{Complex}
 use Rattle.gates.specs.Named.{matrixOf}
 use Rattle.model.specs.declared.Answer.{Answer}
-use Rattle.model.specs.declared.Applied.the-variants as applied
+use Rattle.model.specs.declared.Applied.{Applied}
 use Rattle.model.specs.declared.Measured.{Measured}
 use Rattle.model.specs.declared.Projected.{Projected}
 use Rattle.model.specs.declared.Chain.{Chain}
@@ -21,14 +23,17 @@ use Rattle.model.specs.Cut.{Ran, ran, adjacent}
 use Rattle.model.specs.Routing.{Step, relabelled, follow, stepped, runSteps, gateRun}
 use Rattle.model.specs.Born.{drawnAt, readied}
 use Rattle.model.specs.Sound.{sound}
-use Rattle.model.specs.Calls.{After, after, gateAfter, cleared, gateRefusal, gateCall, namedGateCall, projectRefusal, projectCall, measureRefusal, measureCall, resetRefusal, resetCall}
+use Rattle.model.specs.Answers.{viewApplied}
+use Rattle.model.specs.Calls.{After, gateRefusal, gateCall, namedGateCall, projectRefusal, projectCall, measureRefusal, measureCall, resetRefusal, resetCall}
 use Rattle.model.specs.Lists.{gate, named, project, measure, reset, left, stateOf}
 use Rattle.model.specs.Statements.Table.{gateSteps}
-use Rattle.model.specs.Statements.Demand1Cuts.{cutSvd, cutShare, madeIn, sharesOf, gateShares, callShares, listShares, discarded, WeightOfCall, WeightOfList, labelsOf}
+use Rattle.model.specs.Statements.Demand1.{Early, Late}
+use Rattle.model.specs.Statements.Demand1Cuts.{cutSvd, cutShare, sharesOf, unlessEarly, callShares, listShares, discarded, WeightOfCall, WeightOfList, labelsOf}
 use Rattle.model.specs.Statements.Soundness.{Sound}
-use Rattle.model.specs.Laws.Refusals.{AcceptedReading, project-passes, measure-passes, reset-passes}
+use Rattle.model.specs.Laws.Refusals.{AcceptedReading, project-passes, measure-passes, reset-passes, above-zero, applied-number, gate-least}
+use Rattle.model.specs.Laws.AfterStates.{gateRun-late}
 use Rattle.model.specs.Laws.SoundKept.{gate-accepted, Inside, stepped-keeps, readied-narrowed, projectedAt-chain, resetAt-chain, relabelledBy}
-use Rattle.model.specs.Laws.CutEnds.{cutAt, CutEnds, above, first-nan, second-nan, stored, adjacent-ends, made-narrowed, refused-narrowed}
+use Rattle.model.specs.Laws.CutEnds.{cutAt, CutEnds, above, nan, stored, adjacent-ends, last-narrowed, refused-narrowed}
 use Rattle.model.specs.Laws.Tests.{by-test, either-way}
 
 -- ---- shares added from the left
@@ -51,10 +56,10 @@ abbrev Weighed : List Float → State → Ran → Type 0
 Weighed shares s r = discarded (r .state) ≡ cond (eqb (r .refused) 0) (added (discarded s) shares) (discarded s)
 
 module _ (x : Step) (s : State) (h : Sound (s .chain)) (inside : x .site + 1 < s .chain .«num_qubits») where
-  stored-discarded : discarded (cutAt (x .gate) (x .site) (madeIn (x .gate) (x .site) s)) ≡ added (discarded s) (cutShare (x .gate) (x .site) s)
+  stored-discarded : discarded (cutAt (x .gate) (x .site) s) ≡ added (discarded s) (cutShare (x .gate) (x .site) s)
   stored-discarded =
       let d = cutSvd (x .gate) (x .site) s in
-      let same = made-narrowed (x .gate) (x .site) s h inside .rest in
+      let same = last-narrowed (x .gate) (x .site) s h inside .rest in
       (λ i. recorded (same .discarded i) (share (values d) (rank (same .epsilon i) (same .cap i) (values d)))) ∙ recorded-added (discarded s) (cutShare (x .gate) (x .site) s)
 
   relabels-discarded : (t : State) → discarded (relabelledBy x t) ≡ discarded t
@@ -69,9 +74,8 @@ module _ (x : Step) (s : State) (h : Sound (s .chain)) (inside : x .site + 1 < s
 
   step-ends : (r : Ran) → CutEnds (x .gate) (x .site) s r → Follows r
   step-ends r (above a e) = refused-follows r (above a e) (ap (λ (y : Ran). eqb (y .refused) 0) e)
-  step-ends r (first-nan a n e) = refused-follows r (first-nan a n e) (ap (λ (y : Ran). eqb (y .refused) 0) e)
-  step-ends r (second-nan a n e) = refused-follows r (second-nan a n e) (ap (λ (y : Ran). eqb (y .refused) 0) e)
-  step-ends r (stored a n n′ m e) = subst Follows (sym e) (relabels-discarded (cutAt (x .gate) (x .site) (madeIn (x .gate) (x .site) s)) ∙ stored-discarded)
+  step-ends r (nan a t n e) = refused-follows r (nan a t n e) (ap (λ (y : Ran). eqb (y .refused) 0) e)
+  step-ends r (stored a n e) = subst Follows (sym e) (relabels-discarded (cutAt (x .gate) (x .site) s) ∙ stored-discarded)
 
   step-discarded : Weighed (cutShare (x .gate) (x .site) s) s (stepped x s)
   unfolding stepped
@@ -140,15 +144,27 @@ module _ (s : State) (work : List Float) where
 
 -- ---- a call, and a list of calls
 
-gate-discarded : (s : State) (work : List Float) (q0 q1 : ℕ) (g : List (List Complex)) → discarded (left (gateCall s work q0 q1 g)) ≡ added (discarded s) (gateShares s work q0 q1 g)
+unless-early : (number : ℕ) (shares : List Float) → Early number → unlessEarly number shares ≡ []
+unless-early number shares e = rw (le-leb 1 number (e .0), le-leb number 5 (e .1))
+
+unless-late : (number : ℕ) (shares : List Float) → Late number → unlessEarly number shares ≡ shares
+unless-late number shares (inl z) = rw z
+unless-late number shares (inr l) = rw (le-leb 1 number (omega arith), lt-leb number 5 l)
+
+gate-discarded : (s : State) (work : List Float) (q0 q1 : ℕ) (g : List (List Complex))
+    → (let a = gateCall s work q0 q1 g in discarded (left a) ≡ added (discarded s) (unlessEarly (viewApplied (a .answer) .number) (sharesOf (gateSteps s q0 q1 g) s)))
 unfolding gateCall gateRun
-gate-discarded s work q0 q1 g = pick (eqb (gateRefusal s work q0 q1 g) 0) refl
+gate-discarded s work q0 q1 g =
+    by-test (λ (a : After Applied). discarded (left a) ≡ added (discarded s) (unlessEarly (viewApplied (a .answer) .number) shares)) (eqb (gateRefusal s work q0 q1 g) 0) _ _
+    (λ e.
+    let x = gate-accepted s work q0 q1 g e in
+    let n = gateRun g q0 q1 s .refused in
+    let late = ap (λ (m : ℕ). unlessEarly m shares) (applied-number n) ∙ unless-late n shares (gateRun-late g q0 q1 s) in
+    run-discarded (gateSteps s q0 q1 g) s (x .sound) (x .inside) ∙ ap (added (discarded s)) (sym late))
+    (λ e. ap (added (discarded s)) (sym (unless-early (gateRefusal s work q0 q1 g) shares (above-zero (gateRefusal s work q0 q1 g) e, gate-least s work q0 q1 g))))
   where
-    pick : (b : Bool) → eqb (gateRefusal s work q0 q1 g) 0 ≡ b
-        → discarded (left (cond b (gateAfter (gateRun g q0 q1 s) (cleared (s .chain) work)) (after (applied.Refused (gateRefusal s work q0 q1 g)) s work)))
-        ≡ added (discarded s) (cond b (sharesOf (gateSteps s q0 q1 g) s) [])
-    pick true e = let x = gate-accepted s work q0 q1 g e in run-discarded (gateSteps s q0 q1 g) s (x .sound) (x .inside)
-    pick false e = refl
+    shares : List Float
+    shares = sharesOf (gateSteps s q0 q1 g) s
 
 pub weight-of-call : WeightOfCall
 unfolding WeightOfCall callShares namedGateCall

@@ -23,7 +23,7 @@ use Rattle.model.specs.Statements.Demand1.{NothingExactly, Numbered, Rem
 use Rattle.model.specs.Laws.SoundKept.{readied-keeps}
 use Rattle.model.specs.Laws.Refusals.{AcceptedReading, project-passes, measure-passes, reset-passes, run-late, firstOf-least, start-refusals, project-refusals, measure-refusals, reset-refusals, left-environment-refusals, right-environment-refusals}
 use Rattle.model.specs.Laws.Gates.{gate-refusals, named-refusals}
-use Rattle.model.specs.Laws.AfterStates.{gate-leaves, gate-unmoved, named-leaves, project-leaves, measure-leaves, reset-leaves}
+use Rattle.model.specs.Laws.AfterStates.{gate-leaves, gate-unmoved, named-leaves, named-unmoved, project-leaves, measure-leaves, reset-leaves}
 use Rattle.model.specs.Laws.StartLaws.{start-leaves}
 use Rattle.model.specs.Laws.EnvironmentLaws.{left-environment-leaves, right-environment-leaves}
 
@@ -142,6 +142,7 @@ remains = record {
   gate = gate-leaves;
   named = named-leaves;
   unmoved = gate-unmoved;
+  unmoved-named = named-unmoved;
   project = project-leaves;
   measure = measure-leaves;
   reset = reset-leaves;

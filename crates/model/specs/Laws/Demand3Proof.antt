@@ -280,13 +280,6 @@ module _ (S : Setup) (D : Fit S) where
     pub following : Following S s M
     pub soundness : T (sound (s .chain))
 
-  -- a gate by matrix that, unless it is refused, moves bits and phases
-  pub gate-between : (q0 q1 : ℕ) (g : List (List Complex)) (work : List Float) (s : State) (M : Machine) → Between s M → (numberOf (gate q0 q1 g work) ≡ 0 → Moves g)
-      → (answerOf (gate q0 q1 g work) s ≡ machineAnswer (S .qubits) (S .cap) (S .long) (gate q0 q1 g work) M) × Between (stateOf (gate q0 q1 g work) s) (machineNext (S .qubits) (S .cap) (S .long) (gate q0 q1 g work) M)
-  gate-between q0 q1 g work s M b G =
-      let x = gate-follows s M (b .following) (b .soundness) q0 q1 g work G in
-      (x .0, record { following = x .1; soundness = call-sound (gate q0 q1 g work) s (b .soundness) })
-
   pub call-between : (c : Call) (s : State) (M : Machine) → Between s M → F64s c → T (allowed (S .qubits) (S .cap) (S .long) c)
       → (answerOf c s ≡ machineAnswer (S .qubits) (S .cap) (S .long) c M) × Between (stateOf c s) (machineNext (S .qubits) (S .cap) (S .long) c M)
   call-between c s M b f a =

@@ -2,7 +2,7 @@
 use Prim.Native.Nat.{ℕ, _≤_, _+_, _<_}
 use mathlib.Core.Path.{_≡_, refl, sym, ap, _∙_, subst}
 use mathlib.Core.Logic.{_⊎_, inl, inr, _≢_, ⊎-elim}
-use mathlib.Core.Bool.{_||_, cond, Bool, true, not, false}
+use mathlib.Core.Bool.{_||_, cond, Bool, true, false}
 use mathlib.Core.List.{List, [], _∷_, _++_}
 use lib.Dec.{eqb}
 use lib.Ieee.{Float}
@@ -12,7 +12,6 @@ use borrow.Author.Tests.{ne-eqb}
 use Rattle.complex.specs.declared.Complex.{Complex}
 use Rattle.gates.specs.Named.{matrixOf}
 use Rattle.gates.specs.declared.NamedGate.{NamedGate}
-use Rattle.gates.specs.Finite.{allFinite}
 use Rattle.model.specs.declared.Chain.{Chain}
 use Rattle.model.specs.declared.Applied.{Applied}
 use Rattle.model.specs.declared.Applied.the-variants as applied
@@ -20,15 +19,15 @@ use Rattle.model.specs.Slots.{State}
 use Rattle.model.specs.Routing.{gateRun, Step, stepped, runSteps}
 use Rattle.model.specs.Answers.{viewApplied}
 use Rattle.model.specs.Sound.{sound}
-use Rattle.model.specs.Calls.{After, outside, cleared, gateRefusal, gateAfter, gateCall, namedGateCall, after, short, appliedOf}
+use Rattle.model.specs.Calls.{After, outside, cleared, gateRefusal, gateAfter, gateCall, namedGateCall, after, appliedOf}
 use Rattle.model.specs.Cut.{Ran}
 use Rattle.model.specs.Lists.{Call, gate, named, project, measure, reset, stateOf, answerOf}
-use Rattle.model.specs.Statements.Table.{Row, _when_, AboveWorkspace, FirstNan, SecondNan, FirstGround, NoPair, gateTable, gateSteps, cutRows}
+use Rattle.model.specs.Statements.Table.{Row, _when_, AboveWorkspace, NanIn, FirstGround, NoPair, gateTable, gateSteps, cutRows}
 use Rattle.model.specs.Statements.Demand1.{Late, Early}
 use Rattle.model.specs.Statements.Demand1Cuts.{labelsOf, StandsBySix, StandsBySeven, StopsAt, GateEnds, Stops, Labels, labelsAfter}
 use Rattle.model.specs.Laws.SoundKept.{Inside, stepped-keeps, accepted-gate, gate-accepted}
-use Rattle.model.specs.Laws.Refusals.{decides-unsound, decides-short, decides-gate, applied-number, first-of, number-picked, run-late, firstOf-least}
-use Rattle.model.specs.Laws.CutEnds.{CutEnds, above, first-nan, second-nan, stored, adjacent-ends, stepped-number, refused-narrowed, stepped-refused, run-on}
+use Rattle.model.specs.Laws.Refusals.{decides-unsound, decides-short, decides-gate, applied-number, first-of, number-picked, run-late, gate-least}
+use Rattle.model.specs.Laws.CutEnds.{CutEnds, above, nan, stored, adjacent-ends, stepped-number, refused-narrowed, stepped-refused, run-on}
 use Rattle.model.specs.Statements.Soundness.{Sound}
 use Rattle.model.specs.Laws.MoveLaws.{AsBefore}
 use Rattle.model.specs.Laws.CutShares.{run-discarded, project-reads, measure-reads, reset-reads}
@@ -48,11 +47,10 @@ then-rows A N rs k m (inr x) rest = inr (x .0, last (x .1))
     last (inl y) = inl (y .0, rw (y .1))
     last (inr y) = inr (y .0, rw (y .1) (rest (y .1)))
 
-ends-number : (g : List (List Complex)) (k : ℕ) (s : State) (r : Ran) → CutEnds g k s r → FirstGround (6 when AboveWorkspace k s ∷ 7 when (FirstNan g k s ⊎ SecondNan g k s) ∷ []) (r .refused)
+ends-number : (g : List (List Complex)) (k : ℕ) (s : State) (r : Ran) → CutEnds g k s r → FirstGround (6 when AboveWorkspace k s ∷ 7 when ((t : State) × NanIn g k s t) ∷ []) (r .refused)
 ends-number g k s r (above a e) = inl (a, ap (λ (x : Ran). x .refused) e)
-ends-number g k s r (first-nan a n e) = inr (a, inl (inl n, ap (λ (x : Ran). x .refused) e))
-ends-number g k s r (second-nan a n e) = inr (a, inl (inr n, ap (λ (x : Ran). x .refused) e))
-ends-number g k s r (stored a n n′ m e) = inr (a, inr (⊎-elim n n′, ap (λ (x : Ran). x .refused) e))
+ends-number g k s r (nan a t n e) = inr (a, inl ((t, n), ap (λ (x : Ran). x .refused) e))
+ends-number g k s r (stored a n e) = inr (a, inr (λ x. n (x .0) (x .1), ap (λ (x : Ran). x .refused) e))
 
 run-more : (x : Step) (xs : List Step) (s : State)
     → runSteps (x ∷ xs) s .refused ≡ cond (eqb (stepped x s .refused) 0) (runSteps xs (stepped x s .state) .refused) (stepped x s .refused)
@@ -69,7 +67,7 @@ run-first [] s h inside = refl
 run-first (x ∷ xs) s h inside =
     let y = stepped-keeps x s h (inside .0) in
     subst (FirstGround (cutRows (x ∷ xs) s)) (sym (run-more x xs s))
-    (then-rows (AboveWorkspace (x .site) s) (FirstNan (x .gate) (x .site) s ⊎ SecondNan (x .gate) (x .site) s) (cutRows xs (stepped x s .state)) (stepped x s .refused) _
+    (then-rows (AboveWorkspace (x .site) s) ((t : State) × NanIn (x .gate) (x .site) s t) (cutRows xs (stepped x s .state)) (stepped x s .refused) _
     (rw (stepped-number x s) (ends-number (x .gate) (x .site) s _ (adjacent-ends (x .gate) (x .site) s h (inside .0))))
     (λ e. run-first xs (stepped x s .state) (y .sound) (rw (y .qubits) (inside .1))))
 
@@ -157,9 +155,8 @@ run-stops (x ∷ xs) s h inside refused =
 module _ (x : Step) (t : State) (work : List Float) where
   stands : (r : Ran) → CutEnds (x .gate) (x .site) t r → r .refused ≢ 0 → StandsBySix (gateAfter r work) x t ⊎ StandsBySeven (gateAfter r work) x t
   stands r (above a e) z = inl (ap (λ (y : Ran). appliedOf (y .refused)) e, a, ap (λ (y : Ran). y .state) e)
-  stands r (first-nan a n e) z = inr (ap (λ (y : Ran). appliedOf (y .refused)) e, inl (n, ap (λ (y : Ran). y .state) e))
-  stands r (second-nan a n e) z = inr (ap (λ (y : Ran). appliedOf (y .refused)) e, inr (n, ap (λ (y : Ran). y .state) e))
-  stands r (stored a n n′ m e) z = absurd (z (ap (λ (y : Ran). y .refused) e))
+  stands r (nan a u n e) z = inr (ap (λ (y : Ran). appliedOf (y .refused)) e, subst (NanIn (x .gate) (x .site) t) (sym (ap (λ (y : Ran). y .state) e)) n)
+  stands r (stored a n e) z = absurd (z (ap (λ (y : Ran). y .refused) e))
 
 stopped : (steps : List Step) (s : State) (work : List Float) (r : Ran) → Sound (s .chain) → r .refused ≢ 0 → Stopped steps s r → StopsAt steps s (gateAfter r work)
 stopped steps s work r h refused z = record {
@@ -184,8 +181,7 @@ module _ (s : State) (work : List Float) (q0 q1 : ℕ) (g : List (List Complex))
   unfolding gateCall
   gate-ran l =
       run-late (λ (a : After Applied). viewApplied (a .answer) .number) (gateRefusal s work q0 q1 g) (gateAfter (gateRun g q0 q1 s) (cleared (s .chain) work)) (after (applied.Refused (gateRefusal s work q0 q1 g)) s work)
-      refl
-      (firstOf-least (not (sound (s .chain))) (short (s .chain) (s .store) work) (outside (s .chain) q0 || outside (s .chain) q1 || eqb q0 q1) (not (allFinite g))) l
+      refl (gate-least s work q0 q1 g) l
 
   gate-is-run : eqb (gateRefusal s work q0 q1 g) 0 ≡ true → gateCall s work q0 q1 g ≡ gateAfter (runSteps (gateSteps s q0 q1 g) s) (cleared (s .chain) work)
   unfolding gateCall gateRun

@@ -22,41 +22,15 @@ use Rattle.model.specs.Qr.{Kept, qr}
 use Rattle.model.specs.Pair.{isometrySite, vtSite}
 use Rattle.model.specs.Moves.{rightMatrix, leftMatrix, absorbedRight, absorbedLeft, stepRight, stepLeft, walkRight, walkLeft, moved, established, centeredOn, Prepared, preparedOn}
 use Rattle.model.specs.Born.{readied}
-use Rattle.model.specs.Statements.Table.{keepsCentre, preparedFor}
+use Rattle.model.specs.Statements.Pinned.{keepsCentre, preparedFor}
 use Rattle.model.specs.Statements.Soundness.{Sound}
+pub use Rattle.model.specs.Statements.CutsAndMoves.{AsBefore, Narrowed, Apart}
+use Rattle.model.specs.Statements.CutsAndMoves.{Moved, MoveLaw, EstablishLaw}
 use Rattle.model.specs.Laws.SoundFacts.{left-most, right-most}
 use Rattle.model.specs.Laws.SoundChanges.{after-set, center-sound, bond-sound, qr-rank-least, qr-rank-most}
 use Rattle.model.specs.Laws.Tests.{either-way}
 
 -- ---- the laws
-
--- all of a record but its bonds and its centre
-pub record AsBefore (c c′ : Chain) : Type 0 where
-  pub qubits : c′ .«num_qubits» ≡ c .«num_qubits»
-  pub cap : c′ .«max_bond_dim» ≡ c .«max_bond_dim»
-  pub exponent : c′ .«workspace_exponent» ≡ c .«workspace_exponent»
-  pub epsilon : c′ .«svd_epsilon» ≡ c .«svd_epsilon»
-  pub clamp : c′ .«norm_clamp_min» ≡ c .«norm_clamp_min»
-  pub sites : c′ .«logical_to_site» ≡ c .«logical_to_site»
-  pub labels : c′ .«site_to_logical» ≡ c .«site_to_logical»
-  pub bits : c′ .«classical_bits» ≡ c .«classical_bits»
-  pub high-water : c′ .«bond_high_water» ≡ c .«bond_high_water»
-  pub discarded : c′ .«truncation_discarded» ≡ c .«truncation_discarded»
-
--- the record c′ that a move across the sites lo to hi makes of c: it is sound, no bond has grown, and the bonds that are not between lo and hi are those of c
-pub record Narrowed (lo hi : ℕ) (c c′ : Chain) : Type 0 where
-  pub sound : Sound c′
-  pub rest : AsBefore c c′
-  pub left-most : (k : ℕ) → bondLeft c′ k ≤ bondLeft c k
-  pub right-most : (k : ℕ) → bondRight c′ k ≤ bondRight c k
-  pub left-apart : (k : ℕ) → (k ≤ lo) ⊎ (hi < k) → bondLeft c′ k ≡ bondLeft c k
-  pub right-apart : (k : ℕ) → (k < lo) ⊎ (hi ≤ k) → bondRight c′ k ≡ bondRight c k
-
--- the store y that is x but for the slots lo to hi, of the n slots of cap d
-pub record Apart (n d lo hi : ℕ) (x y : List Float) : Type 0 where
-  pub slots : (k : ℕ) → (k < lo) ⊎ (hi < k) → slotOf d k y ≡ slotOf d k x
-  pub past : drop (storeRoom n d) y ≡ drop (storeRoom n d) x
-  pub long : length y ≡ length x
 
 -- ---- no change, and one change after another
 
@@ -398,3 +372,13 @@ module _ (P : State → Type 0) (k : ℕ) (s : State) where
   -- the pair as a cut takes it: as it stands, or with the centre on it
   pub prepared-by : P s → (s .chain .center ≡ Unknown → P (established k s)) → ((from to : ℕ) → s .chain .center ≡ At from → k ≤ to → to ≤ k + 1 → P (moved from to s)) → P (preparedFor k s .state)
   prepared-by as-it-is e m = either-way (λ (p : Prepared). P (p .state)) (keepsCentre k s) _ _ (preparedOn-by (s .chain .center) e m) as-it-is
+
+-- ---- the statements
+
+pub move-law : MoveLaw
+unfolding MoveLaw
+move-law from to s h hf ht = record { centre = moved-centre from to s; chain = moved-narrowed from to s h hf ht; store = moved-apart from to s h hf ht }
+
+pub establish-law : EstablishLaw
+unfolding EstablishLaw
+establish-law to s h ht = record { centre = established-centre to s; chain = established-narrowed to s h ht; store = established-apart to s h ht }

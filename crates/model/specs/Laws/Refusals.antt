@@ -27,7 +27,7 @@ use Rattle.model.specs.Answers.{viewAnswer, viewApplied, viewProjected, 
 use Rattle.model.specs.Born.{weightAt, totalAt, readied}
 use Rattle.model.specs.Environment.{Env, leftEnv, rightEnv}
 use Rattle.model.specs.Start.{freshChain, freshStore, zeroChain}
-use Rattle.model.specs.Calls.{After, appliedOf, firstOf, short, outside, cleared, started, startCall, projectRefusal, projectAnswer, projectRun, projectCall, measureRefusal, measureRun, measureCall, resetRefusal, resetRun, resetCall, Walked, envRefusal, envRun, envAfter, leftEnvironmentCall, rightEnvironmentCall}
+use Rattle.model.specs.Calls.{After, appliedOf, firstOf, short, outside, cleared, started, startCall, gateRefusal, projectRefusal, projectAnswer, projectRun, projectCall, measureRefusal, measureRun, measureCall, resetRefusal, resetRun, resetCall, Walked, envRefusal, envRun, envAfter, leftEnvironmentCall, rightEnvironmentCall}
 use Rattle.model.specs.Statements.Demand1.{Early, Late}
 use Rattle.model.specs.Statements.Table.{Row, _when_, FirstGround, OutOfRange, ShortStore, ShortSlice, Unsound, NoQubit, NotFinite, NoGate, NoDraw, startTable, projectTable, measureTable, resetTable, environmentTable}
 use Rattle.model.specs.Statements.Soundness.{Sound}
@@ -121,6 +121,10 @@ firstOf-least false true b4 b5 = omega arith
 firstOf-least false false true b5 = omega arith
 firstOf-least false false false true = omega arith
 firstOf-least false false false false = omega arith
+
+pub gate-least : (s : State) (work : List Float) (q0 q1 : ℕ) (gate : List (List Complex)) → gateRefusal s work q0 q1 gate ≤ 5
+gate-least s work q0 q1 gate =
+    firstOf-least (not (sound (s .chain))) (short (s .chain) (s .store) work) (outside (s .chain) q0 || outside (s .chain) q1 || eqb q0 q1) (not (allFinite gate))
 
 -- none of the four tests holds where no ground refuses
 pub record Passes (b3 b2 b4 b5 : Bool) : Type 0 where

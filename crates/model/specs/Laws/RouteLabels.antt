@@ -18,11 +18,11 @@ use Rattle.model.specs.Slots.{State}
 use Rattle.model.specs.Cut.{Ran, ran, adjacent}
 use Rattle.model.specs.Routing.{relabelled, Route, downTo, routeOf, Step, swapStep, gateStep, stepsOf, follow, stepped, runSteps}
 use Rattle.model.specs.Statements.Table.{gateSteps}
-use Rattle.model.specs.Statements.Demand1Cuts.{madeIn, Labels, labelsOf, exchanged, exchangedAll, swapsOf, siteAfter, siteBefore, labelsAfter}
+use Rattle.model.specs.Statements.Demand1Cuts.{Labels, labelsOf, exchanged, exchangedAll, swapsOf, siteAfter, siteBefore, labelsAfter}
 use Rattle.model.specs.Statements.Soundness.{Sound}
 use Rattle.model.specs.Laws.Labels.{turn, turn-first, turn-second, turn-else, three, Maps, sound-maps, sites-apart, exchanged-qubit, exchanged-site, exchanged-past, exchanged-maps}
 use Rattle.model.specs.Laws.SoundKept.{Inside, stepped-keeps, gate-inside, relabelledBy}
-use Rattle.model.specs.Laws.CutEnds.{cutAt, CutEnds, above, first-nan, second-nan, stored, adjacent-ends, made-narrowed}
+use Rattle.model.specs.Laws.CutEnds.{cutAt, CutEnds, above, nan, stored, adjacent-ends, last-narrowed}
 
 -- ---- the closed form, by cases
 
@@ -215,12 +215,11 @@ module _ (x : Step) (s : State) (h : Sound (s .chain)) (inside : x .site + 1 < s
 
   step-ends : (r : Ran) → CutEnds (x .gate) (x .site) s r → Exchanged (follow r (λ t. ran 0 (relabelledBy x t)))
   step-ends r (above a e) = subst (λ (y : Ran). Exchanged (follow y (λ t. ran 0 (relabelledBy x t)))) (sym e) (λ z. absurd (false≢true z))
-  step-ends r (first-nan a n e) = subst (λ (y : Ran). Exchanged (follow y (λ t. ran 0 (relabelledBy x t)))) (sym e) (λ z. absurd (false≢true z))
-  step-ends r (second-nan a n e) = subst (λ (y : Ran). Exchanged (follow y (λ t. ran 0 (relabelledBy x t)))) (sym e) (λ z. absurd (false≢true z))
-  step-ends r (stored a n n′ m e) =
-      let same = made-narrowed (x .gate) (x .site) s h inside .rest in
+  step-ends r (nan a t n e) = subst (λ (y : Ran). Exchanged (follow y (λ t. ran 0 (relabelledBy x t)))) (sym e) (λ z. absurd (false≢true z))
+  step-ends r (stored a n e) =
+      let same = last-narrowed (x .gate) (x .site) s h inside .rest in
       subst (λ (y : Ran). Exchanged (follow y (λ t. ran 0 (relabelledBy x t)))) (sym e)
-      (λ z. relabels-exchange (x .relabels) (cutAt (x .gate) (x .site) (madeIn (x .gate) (x .site) s) .chain) (λ i. record { sites = same .sites i; qubits = same .labels i }))
+      (λ z. relabels-exchange (x .relabels) (cutAt (x .gate) (x .site) s .chain) (λ i. record { sites = same .sites i; qubits = same .labels i }))
 
   step-labels : Exchanged (stepped x s)
   unfolding stepped

@@ -3,8 +3,8 @@ use Prim.Native.Nat.{ℕ, zero, suc, _+_, _-_, _*_, _≤_, _<_, min, max}
 use native.Mathlib.Omega.{arith}
 use native.Mathlib.Nat.{mul-le-mul}
 use mathlib.Core.Path.{_≡_, refl, sym, ap, _∙_, subst}
-use mathlib.Core.Logic.{inl, inr, _≢_}
-use mathlib.Core.Bool.{Bool, true, false, cond}
+use mathlib.Core.Logic.{_≢_}
+use mathlib.Core.Bool.{Bool, true, false, _||_, cond}
 use mathlib.Core.List.{List, [], _∷_, _++_, map}
 use lib.Dec.{leb, eqb}
 use lib.ListN.{length}
@@ -24,14 +24,15 @@ use Rattle.model.specs.Moves.{moved, established, Prepared, preparedOn}
 use Rattle.model.specs.Cut.{cutStored, Ran, ran, adjacent, weightSite}
 use Rattle.model.specs.Born.{weightAt, projectedSite, resetSite, projectedAt, resetAt, readied}
 use Rattle.model.specs.Routing.{Step, downTo, routeOf, swapStep, stepsOf, stepped, runSteps}
-use Rattle.model.specs.Statements.Table.{keepsCentre, preparedFor, pairOf, rankOf}
-use Rattle.model.specs.Statements.Demand1Cuts.{madeIn}
+use Rattle.model.specs.Statements.Table.{rankOf, DecomposedIn}
+use Rattle.model.specs.Statements.Pinned.{keepsCentre, preparedFor, madeAgain, lastIn}
+use Rattle.model.specs.Statements.Demand1Cuts.{cutSvd}
 use Rattle.model.specs.Statements.Soundness.{Sound}
 use Rattle.model.specs.Laws.SoundFacts.{left-most, right-most}
 use Rattle.model.specs.Laws.SoundChanges.{cut-rank-most}
 use Rattle.model.specs.Laws.MoveLaws.{readied-by, prepared-by, apart-at, Apart, apart-none, apart-then, site-apart, pair-apart, rows-fit, wide-rows-fit, moved-narrowed, moved-apart, moved-centre, established-narrowed, established-apart, established-centre}
 use Rattle.model.specs.Laws.SoundKept.{Keeps, keeps-none, keeps-then, narrowed-keeps, relabelledBy, adjacent-keeps, stepped-keeps, Inside}
-use Rattle.model.specs.Laws.CutEnds.{unprepared, cutAt, Begun, CutEnds, above, first-nan, second-nan, stored, no-centre, adjacent-ends}
+use Rattle.model.specs.Laws.CutEnds.{unprepared, decomposed-by, last-decomposed, cutAt, CutEnds, above, nan, stored, adjacent-ends}
 use Rattle.model.specs.Laws.Tests.{by-test, either-way}
 
 -- ---- a state that rewrites the sites from lo to hi alone
@@ -137,27 +138,24 @@ module _ (s : State) (h : Sound (s .chain)) (room : Room s) (k : ℕ) (inside : 
 
 module _ (lo hi k : ℕ) (a : lo ≤ k) (b : k + 1 ≤ hi) where
   module _ (gate : List (List Complex)) (s : State) (h : Sound (s .chain)) (room : Room s) (inside : k + 1 < s .chain .«num_qubits») (r : Reach (s .chain .«num_qubits») lo hi (s .chain .center)) where
-    begun-within : (u : State) → Begun k s u → Within lo hi s u
-    begun-within u (inl e) = rw e (within-none lo hi s h r)
-    begun-within u (inr e) =
-        let z : Reach (s .chain .«num_qubits») lo hi Unknown = rw (e .0) at r in
-        rw (e .1) (established-within s h room lo hi k (omega arith) (z .0) (z .1))
+    -- every state in which the pair is decomposed
+    decomposed-within : (t : State) → DecomposedIn gate k s t → Within lo hi s t
+    decomposed-within = decomposed-by gate k s (Within lo hi s) (prepared-within s h room lo hi k a r inside b)
+        (λ e. let z : Reach (s .chain .«num_qubits») lo hi Unknown = rw e at r in established-within s h room lo hi k (omega arith) (z .0) (z .1))
 
-    ready-within : (u : State) → Begun k s u → Within lo hi s (preparedFor k u .state)
-    ready-within u m =
-        let x = begun-within u m in
-        within-then x (prepared-within u (x .keeps .sound) (within-room x room) lo hi k a (within-reach x) (rw (x .keeps .qubits) inside) b)
-
-    stored-within : (u : State) → Begun k s u → adjacent gate k s .state ≡ cutAt gate k u → Within lo hi s (adjacent gate k s .state)
-    stored-within u m e =
-        let y = ready-within u m in
-        let t = preparedFor k u .state in
+    stored-within : adjacent gate k s .state ≡ cutAt gate k s → Within lo hi s (adjacent gate k s .state)
+    stored-within e =
+        let t = lastIn gate k s in
+        let y = decomposed-within t (last-decomposed gate k s) in
+        let d = cutSvd gate k s in
+        let keeps = madeAgain gate k s || keepsCentre k s in
+        let side = preparedFor k s .side in
         let inside′ : k + 1 < t .chain .«num_qubits» = rw (y .keeps .qubits) inside in
         record {
           keeps = adjacent-keeps gate k s h inside;
           apart = rw e (apart-then lo hi (omega arith) (omega arith) (omega arith) (omega arith) (y .apart)
-              (apart-at (y .keeps .qubits) (y .keeps .cap) (widened a b (cutStored-apart t (y .keeps .sound) (within-room y room) k inside′ (keepsCentre k u) (preparedFor k u .side) (pairOf gate k t) (rankOf t (pairOf gate k t)) (cut-rank-most (t .chain .«svd_epsilon») (t .chain .«max_bond_dim») (values (pairOf gate k t)))))));
-          reach = rw (e, ← y .keeps .qubits) (cutStored-reach t (y .keeps .sound) (within-room y room) k inside′ (keepsCentre k u) (preparedFor k u .side) (pairOf gate k t) (rankOf t (pairOf gate k t)) lo hi a b (within-reach y));
+              (apart-at (y .keeps .qubits) (y .keeps .cap) (widened a b (cutStored-apart t (y .keeps .sound) (within-room y room) k inside′ keeps side d (rankOf t d) (cut-rank-most (t .chain .«svd_epsilon») (t .chain .«max_bond_dim») (values d))))));
+          reach = rw e (subst (λ (n : ℕ). Reach n lo hi (cutAt gate k s .chain .center)) (y .keeps .qubits) (cutStored-reach t (y .keeps .sound) (within-room y room) k inside′ keeps side d (rankOf t d) lo hi a b (within-reach y)));
         }
 
     pub adjacent-within : Within lo hi s (adjacent gate k s .state)
@@ -165,9 +163,8 @@ module _ (lo hi k : ℕ) (a : lo ≤ k) (b : k + 1 ≤ hi) where
       where
         cases : CutEnds gate k s (adjacent gate k s) → Within lo hi s (adjacent gate k s .state)
         cases (above x e) = rw e (within-none lo hi s h r)
-        cases (first-nan x n e) = rw e (ready-within s (inl refl))
-        cases (second-nan x n e) = rw e (ready-within (established k s) (inr (no-centre k s (n .0 .0), refl)))
-        cases (stored x n n′ m e) = stored-within (madeIn gate k s) m (ap (λ (r : Ran). r .state) e)
+        cases (nan x t n e) = rw e (decomposed-within t (n .0))
+        cases (stored x n e) = stored-within (ap (λ (r : Ran). r .state) e)
 
 -- ---- a route
 
@@ -265,20 +262,15 @@ unmoved-then {lo = lo} {hi = hi} k x y = record {
 }
 
 module _ (lo hi k : ℕ) (a : lo ≤ k) (b : k + 1 ≤ hi) (gate : List (List Complex)) (s : State) (h : Sound (s .chain)) (room : Room s) (inside : k + 1 < s .chain .«num_qubits») where
-  -- the state in which the cut was made is the one that it found
-  found : (u : State) → Begun k s u → u .chain .center ≡ Unknown → u ≡ s
-  found u (inl e) c = e
-  found u (inr e) c = absurd (no-At (ap (λ (t : State). t .chain .center) (e .1) ∙ established-centre k s) c)
+  -- decomposed with no centre recorded, the pair was taken as the cut found it
+  taken : (t : State) → DecomposedIn gate k s t → t .chain .center ≡ Unknown → t ≡ s
+  taken = decomposed-by gate k s (λ (t : State). t .chain .center ≡ Unknown → t ≡ s)
+      (λ c. ap (λ (p : Prepared). p .state) (unprepared k s (unmoved-pair k s c))) (λ e c. absurd (no-At (established-centre k s) c))
 
-  taken : (u : State) → Begun k s u → preparedFor k u .state .chain .center ≡ Unknown → preparedFor k u .state ≡ s
-  taken u m c =
-      let e : preparedFor k u .state ≡ u = ap (λ (p : Prepared). p .state) (unprepared k u (unmoved-pair k u c)) in
-      e ∙ found u m (ap (λ (t : State). t .chain .center) (sym e) ∙ c)
-
-  pair-unmoved : (u : State) → Begun k s u → Unmoved lo hi s (preparedFor k u .state)
-  pair-unmoved u m = record {
-    before = λ c. ap (λ (t : State). t .chain .center) (sym (taken u m c)) ∙ c;
-    apart = λ c. subst (λ (t : State). Apart (s .chain .«num_qubits») (s .chain .«max_bond_dim») lo hi (s .store) (t .store)) (sym (taken u m c)) (apart-none _ _ lo hi (s .store));
+  pair-unmoved : (t : State) → DecomposedIn gate k s t → Unmoved lo hi s t
+  pair-unmoved t x = record {
+    before = λ c. ap (λ (u : State). u .chain .center) (sym (taken t x c)) ∙ c;
+    apart = λ c. subst (λ (u : State). Apart (s .chain .«num_qubits») (s .chain .«max_bond_dim») lo hi (s .store) (u .store)) (sym (taken t x c)) (apart-none _ _ lo hi (s .store));
   }
 
   cut-unmoved : (p : State) (side : WeightSide) (keeps : Bool) (d : Svd) (chi : ℕ) → chi ≤ p .chain .«max_bond_dim» → (p .chain .center ≡ Unknown → p ≡ s) → Unmoved lo hi s (cutStored k keeps side p d chi)
@@ -296,13 +288,12 @@ module _ (lo hi k : ℕ) (a : lo ≤ k) (b : k + 1 ≤ hi) (gate : List (List Co
     where
       cases : CutEnds gate k s (adjacent gate k s) → Unmoved lo hi s (adjacent gate k s .state)
       cases (above x e) = rw e (unmoved-none lo hi s)
-      cases (first-nan x n e) = subst (Unmoved lo hi s) (sym (ap (λ (r : Ran). r .state) e)) (pair-unmoved s (inl refl))
-      cases (second-nan x n e) = subst (Unmoved lo hi s) (sym (ap (λ (r : Ran). r .state) e)) (pair-unmoved (established k s) (inr (no-centre k s (n .0 .0), refl)))
-      cases (stored x n n′ m e) =
-          let u = madeIn gate k s in
-          let t = preparedFor k u .state in
+      cases (nan x t n e) = subst (Unmoved lo hi s) (sym (ap (λ (r : Ran). r .state) e)) (pair-unmoved t (n .0))
+      cases (stored x n e) =
+          let t = lastIn gate k s in
+          let d = cutSvd gate k s in
           subst (Unmoved lo hi s) (sym (ap (λ (r : Ran). r .state) e))
-          (cut-unmoved t (preparedFor k u .side) (keepsCentre k u) (pairOf gate k t) (rankOf t (pairOf gate k t)) (cut-rank-most (t .chain .«svd_epsilon») (t .chain .«max_bond_dim») (values (pairOf gate k t))) (taken u m))
+          (cut-unmoved t (preparedFor k s .side) (madeAgain gate k s || keepsCentre k s) d (rankOf t d) (cut-rank-most (t .chain .«svd_epsilon») (t .chain .«max_bond_dim») (values d)) (taken t (last-decomposed gate k s)))
 
 module _ (lo hi : ℕ) where
   stepped-unmoved : (x : Step) (s : State) → Sound (s .chain) → Room s → x .site + 1 < s .chain .«num_qubits» → lo ≤ x .site → x .site + 1 ≤ hi → Unmoved lo hi s (stepped x s .state)

@@ -27,7 +27,8 @@ use Rattle.model.specs.Routing.{downTo, routeOf, Step, swapStep, stepsOf
 use Rattle.model.specs.Born.{weightAt, drawnAt, projectedAt, resetAt, readied}
 use Rattle.model.specs.Sound.{sound}
 use Rattle.model.specs.Calls.{After, short, outside, flagged, gateRefusal, gateCall, namedGateCall, projectRefusal, projectCall, measureRefusal, measureCall, resetRefusal, resetCall}
-use Rattle.model.specs.Statements.Table.{rankOf, keepsCentre, preparedFor, gateSteps}
+use Rattle.model.specs.Statements.Table.{rankOf, gateSteps}
+use Rattle.model.specs.Statements.Pinned.{keepsCentre, preparedFor}
 use Rattle.model.specs.Laws.Labels.{sound-maps, sites-apart}
 use Rattle.model.specs.Laws.Refusals.{project-passes, measure-passes, reset-passes, passes-sound, Passes, firstOf-none, two-qubits}
 use Rattle.model.specs.Statements.Soundness.{Sound}

@@ -100,6 +100,15 @@ decides-self b = record { holds = λ t. t; fails = λ t. t }
 pub decides-false : {b : Bool} {P : Type 0} → Decides b P → b ≡ false → P → ⊥
 decides-false d e p = subst T e (d .fails p)
 
+-- the test's value from what it decides
+pub test-true : {b : Bool} {P : Type 0} → Decides b P → P → b ≡ true
+test-true {b = true} d p = refl
+test-true {b = false} d p = absurd (d .fails p)
+
+pub test-false : {b : Bool} {P : Type 0} → Decides b P → (P → ⊥) → b ≡ false
+test-false {b = true} d n = absurd (n (d .holds tt))
+test-false {b = false} d n = refl
+
 -- ---- a test of every number below n, and of some
 
 -- the numbers below n + 1 are those below n, and n

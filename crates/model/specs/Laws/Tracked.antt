@@ -34,7 +34,7 @@ use Rattle.model.specs.Cut.{Tried, tried, weightSite, cutStored, conclud
 use Rattle.model.specs.Born.{weight, total, drawn, projectedSite, resetSite, weightAt, totalAt, drawnAt, unlessClamped, projectedAt, resetAt, readied}
 use Rattle.model.specs.Calls.{projectAnswer}
 use Rattle.model.specs.Phases.{Phase, _⊗_, one}
-use Rattle.model.specs.Statements.Table.{keepsCentre, preparedFor}
+use Rattle.model.specs.Statements.Pinned.{keepsCentre, preparedFor}
 use Rattle.model.specs.Laws.Units.{Holds, Moves, Fraction}
 use Rattle.model.specs.Laws.UnitCut.{cut-exact}
 use Rattle.model.specs.Laws.UnitSites.{weight-is, total-is, drawn-is, clamped-is, projected-holds, reset-holds, holds-filled, right-exact, left-exact}

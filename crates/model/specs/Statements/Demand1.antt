@@ -113,6 +113,9 @@ pub record Remains : Type 0 where
   pub unmoved : (s : State) (work : List Float) (q0 q1 : ℕ) (gate : List (List Complex)) →
       (let a = gateCall s work q0 q1 gate in
       a .chain .center ≡ Unknown → StoreLeft (s .chain .«num_qubits») (s .chain .«max_bond_dim») (nearSite s q0 q1) (farSite s q0 q1) (s .store) (a .store))
+  pub unmoved-named : (s : State) (work : List Float) (q0 q1 : ℕ) (name : NamedGate) →
+      (let a = namedGateCall s work q0 q1 name in
+      a .chain .center ≡ Unknown → StoreLeft (s .chain .«num_qubits») (s .chain .«max_bond_dim») (nearSite s q0 q1) (farSite s q0 q1) (s .store) (a .store))
   pub project : (s : State) (work : List Float) (q : ℕ) (o : Bool) →
       (let a = projectCall s work q o in let k = siteOf (s .chain) q in Leaves s work k k (viewProjected (a .answer) .number) a)
   pub measure : (s : State) (work : List Float) (q flag : ℕ) (draw : Float) →

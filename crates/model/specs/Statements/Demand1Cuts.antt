@@ -18,23 +18,18 @@ use Rattle.model.specs.declared.Chain.{Chain}
 use Rattle.model.specs.Slots.{State}
 use Rattle.model.specs.Svd.{Svd, values}
 use Rattle.model.specs.Truncation.{share}
-use Rattle.model.specs.Moves.{established}
-use Rattle.model.specs.Cut.{attempt}
 use Rattle.model.specs.Routing.{Step, stepped, runSteps}
 use Rattle.model.specs.Answers.{viewApplied}
-use Rattle.model.specs.Calls.{After, gateRefusal, gateCall, namedGateCall}
+use Rattle.model.specs.Calls.{After, gateCall, namedGateCall}
 use Rattle.model.specs.Lists.{Call, gate, named, project, measure, reset, left, stateOf, finalState}
-use Rattle.model.specs.Statements.Table.{AboveWorkspace, preparedFor, pairOf, rankOf, FirstNan, SecondNan, gateSteps}
+use Rattle.model.specs.Statements.Table.{AboveWorkspace, pairOf, rankOf, NanIn, gateSteps}
+use Rattle.model.specs.Statements.Pinned.{lastIn}
 
 -- ---- the shares of the cuts that are stored
 
--- the state in which a cut of the pair k, k + 1 is made: where its first attempt would lose weight without a centre, one is established
-abbrev pub madeIn : List (List Complex) → ℕ → State → State
-madeIn g k s = cond (attempt g k s .again) (established k s) s
-
--- the decomposition that it stores
+-- the decomposition that a cut of the pair k, k + 1 stores: the last, of the state that `Pinned.last` says
 abbrev pub cutSvd : List (List Complex) → ℕ → State → Svd
-cutSvd g k s = pairOf g k (preparedFor k (madeIn g k s) .state)
+cutSvd g k s = pairOf g k (lastIn g k s)
 
 -- what it records if it is stored: the share of its values past the kept rank; nothing where nothing is dropped, or the total is at most 0
 abbrev pub cutShare : List (List Complex) → ℕ → State → List Float
@@ -45,13 +40,13 @@ unfoldable pub sharesOf : List Step → State → List Float
 sharesOf [] s = []
 sharesOf (x ∷ xs) s = cond (eqb (stepped x s .refused) 0) (cutShare (x .gate) (x .site) s ++ sharesOf xs (stepped x s .state)) []
 
--- of a call: only a gate that is not refused by 3, 2, 4 or 5 stores cuts
-abbrev pub gateShares : State → List Float → ℕ → ℕ → List (List Complex) → List Float
-gateShares s work q0 q1 g = cond (eqb (gateRefusal s work q0 q1 g) 0) (sharesOf (gateSteps s q0 q1 g) s) []
+-- of a call, by the number that it answers: a gate that is refused by 1 to 5 makes no cut
+abbrev pub unlessEarly : ℕ → List Float → List Float
+unlessEarly number shares = cond (leb 1 number && leb number 5) [] shares
 
 unfoldable pub callShares : Call → State → List Float
-callShares (gate q0 q1 g work) s = gateShares s work q0 q1 g
-callShares (named q0 q1 name work) s = gateShares s work q0 q1 (matrixOf name)
+callShares (gate q0 q1 g work) s = unlessEarly (viewApplied (gateCall s work q0 q1 g .answer) .number) (sharesOf (gateSteps s q0 q1 g) s)
+callShares (named q0 q1 name work) s = unlessEarly (viewApplied (namedGateCall s work q0 q1 name .answer) .number) (sharesOf (gateSteps s q0 q1 (matrixOf name)) s)
 callShares (project q o work) s = []
 callShares (measure q flag draw work) s = []
 callShares (reset q draw work) s = []
@@ -123,12 +118,9 @@ labelsAfter l q0 q1 =
 abbrev pub StandsBySix : After Applied → Step → State → Type 0
 StandsBySix a x t = (a .answer ≡ applied.Refused 6) × AboveWorkspace (x .site) t × (left a ≡ t)
 
--- by 7: any centre move of this cut stands too, and the cut is not stored
+-- by 7: any centre move of this cut stands too, and the cut is not stored: what is left is the state in which there is a NaN
 abbrev pub StandsBySeven : After Applied → Step → State → Type 0
-StandsBySeven a x t =
-    (a .answer ≡ applied.Refused 7)
-    × ((FirstNan (x .gate) (x .site) t × (left a ≡ preparedFor (x .site) t .state))
-    ⊎ (SecondNan (x .gate) (x .site) t × (left a ≡ preparedFor (x .site) (established (x .site) t) .state)))
+StandsBySeven a x t = (a .answer ≡ applied.Refused 7) × NanIn (x .gate) (x .site) t (left a)
 
 -- `before` are the cuts before it, done by the fold that an accepted gate is
 pub record StopsAt (steps : List Step) (s : State) (a : After Applied) : Type 0 where

@@ -1,18 +1,16 @@
 -- DEMAND 3. On a fresh chain of two or more qubits with workspace exponent 5 or more, every list of calls whose gates only move bits and phases answers as the
--- bits-and-phase machine does, and leaves the chain following it. Statements only; `Laws/Demand3Proof` and `Laws/Demand3Product` prove them.
+-- bits-and-phase machine does, and leaves the chain following it. Statements only; `Laws/Demand3Proof` proves it. Its last sentence, of two gates and their product, stands in `Product`.
 use Prim.Native.Nat.{ℕ, _+_, _-_, _≤_, _<_}
 use mathlib.Core.Path.{_≡_}
 use mathlib.Core.Bool.{Bool, not, cond}
-use mathlib.Core.List.{List, [], _∷_, _++_}
+use mathlib.Core.List.{List, [], _∷_}
 use lib.Dec.{T}
 use lib.ListN.{length}
 use lib.Ieee.{Float, binary64, fits}
-use Rattle.complex.specs.Complex.{mulC, isZero, zeroF, oneF, zeroC}
-use Rattle.complex.specs.Loops.{each, sumC}
+use Rattle.complex.specs.Complex.{mulC, isZero, zeroF, oneF}
+use Rattle.complex.specs.Loops.{each}
 use Rattle.complex.specs.declared.Complex.{Complex}
-use Rattle.gates.specs.Gate.{entry, gateOf}
-use Rattle.gates.specs.Named.{matrixOf}
-use Rattle.gates.specs.declared.NamedGate.{NamedGate}
+use Rattle.gates.specs.Gate.{entry}
 use Rattle.model.specs.declared.Answer.the-variants as answer
 use Rattle.model.specs.declared.Projected.the-variants as projected
 use Rattle.model.specs.Chain.{bondLeft, bondRight, siteOf, qubitAt}
@@ -20,8 +18,7 @@ use Rattle.model.specs.Slots.{State, held, workRoom, siteAt, amplitude}
 use Rattle.model.specs.Born.{bitOf, weightAt, readied}
 use Rattle.model.specs.Phases.{phaseC, equals}
 use Rattle.model.specs.Calls.{startCall, projectCall}
-use Rattle.model.specs.Answers.{accepted, none}
-use Rattle.model.specs.Lists.{Call, gate, named, project, measure, reset, answerOf, stateOf, finalState, answersOf}
+use Rattle.model.specs.Lists.{Call, gate, named, project, measure, reset, finalState, answersOf}
 use Rattle.model.specs.Machine.{Machine, fresh, machineAnswers, machineAfter, allAllowed}
 
 -- ---- what the program's types say: each f64 handed in is a value of binary64
@@ -75,32 +72,3 @@ Demand3 =
     → (calls : List Call) → AllF64 calls → T (allAllowed n d (length store) calls)
     → (let s = held (st .chain) (st .store) in
     (answersOf calls s ≡ machineAnswers n d (length store) calls fresh) × Follows n d (finalState calls s) (machineAfter n d (length store) calls fresh)))
-
--- ---- the claim about two gates in a list and their product in their place
-
--- the matrix product, each sum from +0 up
-abbrev pub matrixProduct : List (List Complex) → List (List Complex) → List (List Complex)
-matrixProduct a b = gateOf (λ r c. sumC 4 (λ k. mulC (entry a r k) (entry b k c)) zeroC)
-
--- a call is a gate on the ordered pair q0, q1, by matrix or by name, and this is its matrix
-pub data GateOn (q0 q1 : ℕ) : Call → List (List Complex) → Type 0 where
-  by-matrix : (g : List (List Complex)) (work : List Float) → GateOn q0 q1 (gate q0 q1 g work) g
-  by-name : (name : NamedGate) (work : List Float) → GateOn q0 q1 (named q0 q1 name work) (matrixOf name)
-
--- Wherever two accepted gates on one ordered pair stand next to each other, the product of their matrices, the later gate's on the left, accepted in their place:
--- the calls before are given the same chain, the calls after answer alike, and both chains end following one machine.
-unfoldable pub ProductClause : Type 0
-ProductClause =
-    (n d exponent : ℕ) (epsilon clamp : Float) (store : List Float) → F64 epsilon → F64 clamp
-    → 2 ≤ n → 5 ≤ exponent
-    → (let st = startCall n d epsilon clamp exponent store in
-    st .answer ≡ answer.Done
-    → (q0 q1 : ℕ) (c1 c2 : Call) (m1 m2 : List (List Complex)) → GateOn q0 q1 c1 m1 → GateOn q0 q1 c2 m2
-    → (before after : List Call) → (let calls = before ++ (c1 ∷ c2 ∷ after) in
-    AllF64 calls → T (allAllowed n d (length store) calls)
-    → (work : List Float) → (let c12 = gate q0 q1 (matrixProduct m2 m1) work in
-    let s = held (st .chain) (st .store) in
-    let t = finalState before s in
-    answerOf c1 t ≡ accepted none → answerOf c2 (stateOf c1 t) ≡ accepted none → answerOf c12 t ≡ accepted none
-    → (let M = machineAfter n d (length store) calls fresh in
-    (answersOf after (stateOf c2 (stateOf c1 t)) ≡ answersOf after (stateOf c12 t)) × Follows n d (finalState calls s) M × Follows n d (finalState (before ++ (c12 ∷ after)) s) M))))

@@ -1,25 +1,26 @@
 -- Document 01's table 'How a call is turned down': for each call its rows in the order in which they are tried, each a number and the ground on which it is answered.
--- The grounds are propositions written from the document, and cite none of the tests in the calls' definitions; the rows of a cut speak of the states of its run.
-use Prim.Native.Nat.{ℕ, _+_, _*_, _^_, _≤_, _<_}
+-- The grounds are propositions written from the document and the Rust, and cite none of the tests in the calls' definitions. What they cite of the definitions computes
+-- values and states: a gate's entries; the pair's decomposition, its values and the rank that is kept; the moves of the centre; the route; and the state that a cut leaves.
+use Prim.Native.Nat.{ℕ, _+_, _*_, _^_, _≤_, _<_, min}
 use mathlib.Core.Path.{_≡_}
 use mathlib.Core.Logic.{_⊎_}
-use mathlib.Core.Bool.{Bool, false, cond, _||_}
+use mathlib.Core.Bool.{false}
 use mathlib.Core.List.{List, [], _∷_}
 use lib.Dec.{T}
-use lib.ListN.{length}
-use lib.Ieee.{Float, nan, inf, fin, le, lt}
+use lib.IntN.{negsuc}
+use lib.ListN.{length, getD}
+use lib.Ieee.{Float, nan, inf, fin, binary64, mul, le, lt}
 use Rattle.complex.specs.Complex.{zeroF, oneF}
 use Rattle.complex.specs.declared.Complex.{Complex}
 use Rattle.gates.specs.Gate.{entry}
 use Rattle.model.specs.declared.Chain.{Chain}
-use Rattle.model.specs.declared.WeightSide.the-variants.{Right}
+use Rattle.model.specs.declared.Center.the-variants.{At}
 use Rattle.model.specs.Chain.{siteOf}
 use Rattle.model.specs.Slots.{State, lefts, rights, siteAt}
 use Rattle.model.specs.Svd.{Svd, values, rawValue}
-use Rattle.model.specs.Truncation.{cutRank, rank, resolvable}
+use Rattle.model.specs.Truncation.{rank}
 use Rattle.model.specs.Pair.{pairSvd}
-use Rattle.model.specs.Moves.{established, Prepared, prepared, preparedOn}
-use Rattle.model.specs.Cut.{known, canLose}
+use Rattle.model.specs.Moves.{established, preparedOn}
 use Rattle.model.specs.Routing.{Step, routeOf, stepsOf, stepped}
 use Rattle.model.specs.Statements.Soundness.{Settings, Sound}
 
@@ -90,12 +91,23 @@ NoDraw draw = T (le zeroF draw) × T (lt draw oneF) → ⊥
 abbrev pub AboveWorkspace : ℕ → State → Type 0
 AboveWorkspace k s = 2 ^ s .chain .«workspace_exponent» < 20 * lefts s k * rights s (k + 1) + 2 * rights s k * rights s (k + 1)
 
--- the centre is brought onto the pair if one is recorded, or if the cut can lose weight
-abbrev pub keepsCentre : ℕ → State → Bool
-keepsCentre k s = known (s .chain .center) || canLose (s .chain) (cutRank (lefts s k) (rights s k) (rights s (k + 1)))
+-- the most values that it can have: twice the narrower outer bond, and at most four times the middle one (cut_rank)
+abbrev pub mostValues : ℕ → State → ℕ
+mostValues k s = min (2 * min (lefts s k) (rights s (k + 1))) (4 * rights s k)
 
-abbrev pub preparedFor : ℕ → State → Prepared
-preparedFor k s = cond (keepsCentre k s) (preparedOn k (s .chain .center) s) (prepared Right s)
+-- it can lose weight: it can have more values than the cap; or there is a threshold, and it can have 128 values or a bond has had them (cut_can_lose)
+abbrev pub CanLose : ℕ → State → Type 0
+CanLose k s =
+    let c = s .chain in
+    (c .«max_bond_dim» < mostValues k s) ⊎ (T (lt zeroF (c .«svd_epsilon»)) × ((128 ≤ mostValues k s) ⊎ (128 ≤ c .«bond_high_water»)))
+
+-- it keeps a centre: one is recorded, or it can lose weight
+abbrev pub KeepsCentre : ℕ → State → Type 0
+KeepsCentre k s = ((j : ℕ) × (s .chain .center ≡ At j)) ⊎ CanLose k s
+
+-- t is the state in which the pair is first decomposed: with the centre brought onto it if one is kept, else as it stands
+abbrev pub FirstIn : ℕ → State → State → Type 0
+FirstIn k s t = (KeepsCentre k s × (t ≡ preparedOn k (s .chain .center) s .state)) ⊎ ((KeepsCentre k s → ⊥) × (t ≡ s))
 
 -- the decomposition of the pair
 abbrev pub pairOf : List (List Complex) → ℕ → State → Svd
@@ -108,24 +120,26 @@ rankOf s d = rank (s .chain .«svd_epsilon») (s .chain .«max_bond_dim») (valu
 abbrev pub SomeNan : Svd → Type 0
 SomeNan d = (j : ℕ) × (j < d .wide) × (rawValue d j ≡ nan)
 
--- with no centre kept, the cut would drop weight that can be resolved: then a centre is established, and the cut made again
+-- the first value that is not kept is above 4 * 2^-52, which is 2^-50, times the first value (discards_resolvable_weight)
+abbrev pub Resolvable : List Float → ℕ → Type 0
+Resolvable s kept = (kept < length s) × T (lt (mul binary64 (fin false 1 (negsuc 49)) (getD s 0 nan)) (getD s kept nan))
+
+-- with no centre kept, and no NaN, the cut would drop weight that can be resolved: then a centre is established on site k, and the cut made again
 abbrev pub MadeAgain : List (List Complex) → ℕ → State → Type 0
-MadeAgain gate k s =
-    let t = preparedFor k s .state in
-    let d = pairOf gate k t in
-    (keepsCentre k s ≡ false) × T (resolvable (values d) (rankOf t d))
+MadeAgain gate k s = let d = pairOf gate k s in (KeepsCentre k s → ⊥) × (SomeNan d → ⊥) × Resolvable (values d) (rankOf s d)
 
--- a NaN among the singular values of a cut, and of one made again
-abbrev pub FirstNan : List (List Complex) → ℕ → State → Type 0
-FirstNan gate k s = SomeNan (pairOf gate k (preparedFor k s .state))
+-- t is a state in which the cut decomposes the pair: the first, and that with the centre established if it is made again
+abbrev pub DecomposedIn : List (List Complex) → ℕ → State → State → Type 0
+DecomposedIn gate k s t = FirstIn k s t ⊎ (MadeAgain gate k s × (t ≡ established k s))
 
-abbrev pub SecondNan : List (List Complex) → ℕ → State → Type 0
-SecondNan gate k s = MadeAgain gate k s × SomeNan (pairOf gate k (preparedFor k (established k s) .state))
+-- and a singular value is a NaN there
+abbrev pub NanIn : List (List Complex) → ℕ → State → State → Type 0
+NanIn gate k s t = DecomposedIn gate k s t × SomeNan (pairOf gate k t)
 
 -- cut by cut, each in the state that those before it left
 abbrev pub cutRows : List Step → State → List Row
 cutRows [] s = []
-cutRows (x ∷ xs) s = 6 when AboveWorkspace (x .site) s ∷ 7 when (FirstNan (x .gate) (x .site) s ⊎ SecondNan (x .gate) (x .site) s) ∷ cutRows xs (stepped x s .state)
+cutRows (x ∷ xs) s = 6 when AboveWorkspace (x .site) s ∷ 7 when ((t : State) × NanIn (x .gate) (x .site) s t) ∷ cutRows xs (stepped x s .state)
 
 -- the cuts of a gate
 abbrev pub gateSteps : State → ℕ → ℕ → List (List Complex) → List Step
