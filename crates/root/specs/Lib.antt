@@ -1,10 +1,11 @@
--- To believe: Root, which the contracts cite, and Norm; Units and Nearest, which say what the root has to be. Theorems states what is proved of them.
+-- To believe: Root, which the contracts cite, and Norm; Units and Nearest, which say what the root has to be. Theorems states what is proved of them, and Promises what is promised.
 -- The others are its proofs: NearestLaws and Rounding, and from the code to `rootOf` by Whole, Digits, Parts, Patterns and Method.
 pub mod Root
 pub mod Norm
 pub mod Units
 pub mod Nearest
 pub mod Theorems
+pub mod Promises
 pub mod NearestLaws
 pub mod Rounding
 pub mod Whole
