@@ -21,7 +21,8 @@ use Rattle.model.specs.Pair.{pairSvd, leftSite, rightSite}
 use Rattle.model.specs.Moves.{Prepared, prepared, preparedOn, established}
 use Rattle.model.specs.Cut.{Tried, tried, Ran, ran, weightSite, cutWith, attempt, adjacent}
 use Rattle.model.specs.Routing.{downTo, swapStep, stepped}
-use Rattle.model.specs.Statements.Table.{keepsCentre, preparedFor, pairOf}
+use Rattle.model.specs.Statements.Table.{pairOf}
+use Rattle.model.specs.Statements.Pinned.{keepsCentre, preparedFor}
 use Rattle.model.specs.Statements.Soundness.{Sound}
 use Rattle.model.specs.Laws.MoveLaws.{established-narrowed}
 use Rattle.model.specs.Laws.SoundKept.{Keeps, Inside, narrowed-keeps, prepared-narrowed, attempt-keeps, adjacent-keeps, stepped-keeps, runSteps-keeps}
