@@ -1,6 +1,7 @@
 -- One turn of each walk, and none; a move, from what each of its parts leaves.
 use Prim.Native.Nat.{ℕ, suc, _+_, _-_, _*_, _≤_, _<_}
 use mathlib.Core.Path.{_≡_}
+use mathlib.Core.Logic.{_⊎_, ⊎-elim}
 use native.Mathlib.Omega.{arith}
 use borrow.Author.Tests.{le-leb, lt-leb}
 use Rattle.model.specs.declared.Center.{Center}
@@ -33,29 +34,38 @@ module _ (s u v : State) where
   unfolding moved
   moved-walks from to eu ev = rw (ev, eu)
 
-  module _ (to last : ℕ) (n : last ≡ s .chain .«num_qubits» - 1) where
-    pub established-down : 2 * to ≤ last → u ≡ moved last 0 s → v ≡ moved 0 to u → v ≡ established to s
+  -- from the end `far`, away from `to`, to the other end, and from there to `to`
+  module _ (to last far : ℕ) (n : last ≡ s .chain .«num_qubits» - 1) (eu : u ≡ moved far (last - far) s) (ev : v ≡ moved (last - far) to u) where
+    pub established-down : 2 * to ≤ last → far ≡ last → v ≡ established to s
     unfolding established
-    established-down l eu ev = rw (← n, le-leb (2 * to) last l, ev, eu)
+    established-down l e = let z : last - last ≡ 0 = omega arith in rw (← n, le-leb (2 * to) last l, ev, eu, e, z)
 
-    pub established-up : last < 2 * to → u ≡ moved 0 last s → v ≡ moved last to u → v ≡ established to s
+    pub established-up : last < 2 * to → far ≡ 0 → v ≡ established to s
     unfolding established
-    established-up l eu ev = rw (← n, lt-leb (2 * to) last l, ev, eu)
+    established-up l e = let z : last - 0 ≡ last = omega arith in rw (← n, lt-leb (2 * to) last l, ev, eu, e, z)
+
+-- either end is a site
+module _ {A B : Type 0} (n far : ℕ) (l : 0 < n) (came : (A × (far ≡ n - 1)) ⊎ (B × (far ≡ 0))) where
+  pub end-below : far ≤ n - 1
+  end-below = ⊎-elim (λ w. omega (arith, w .1)) (λ w. omega (arith, w .1)) came
+
+  pub ends-within : (far < n) × (n - 1 - far < n)
+  ends-within = let h = end-below in (omega arith, omega arith)
 
 -- where no centre is recorded, and where one is
-module _ (k : ℕ) (center : Center) (s u : State) where
-  pub on-unknown : center ≡ Unknown → u ≡ established k s → u ≡ centeredOn k center s
-  on-unknown e eu = rw (e, eu)
+module _ (k : ℕ) (center : Center) where
+  pub on-unknown : (s u : State) → center ≡ Unknown → u ≡ established k s → u ≡ centeredOn k center s
+  on-unknown s u e eu = rw (e, eu)
 
-  pub prepared-unknown : center ≡ Unknown → u ≡ established k s → prepared Right u ≡ preparedOn k center s
-  prepared-unknown e eu = rw (e, eu)
+  pub prepared-unknown : center ≡ Unknown → (s : State) → prepared Right (centeredOn k center s) ≡ preparedOn k center s
+  prepared-unknown e s = rw e
 
   module _ (from : ℕ) (e : center ≡ At from) where
-    pub on-centre : u ≡ moved from k s → u ≡ centeredOn k center s
-    on-centre eu = rw (e, eu)
+    pub on-centre : (s u : State) → u ≡ moved from k s → u ≡ centeredOn k center s
+    on-centre s u eu = rw (e, eu)
 
-    pub prepared-right : from ≤ k → u ≡ moved from k s → prepared Right u ≡ preparedOn k center s
-    prepared-right l eu = rw (e, le-leb from k l, eu)
+    pub prepared-right : from ≤ k → (s : State) → prepared Right (centeredOn k center s) ≡ preparedOn k center s
+    prepared-right l s = rw (e, le-leb from k l)
 
-    pub prepared-left : k < from → u ≡ moved from (k + 1) s → prepared Left u ≡ preparedOn k center s
-    prepared-left l eu = rw (e, lt-leb from k l, eu)
+    pub prepared-left : k < from → (s : State) → prepared Left (centeredOn (k + 1) center s) ≡ preparedOn k center s
+    prepared-left l s = rw (e, lt-leb from k l)

@@ -18,7 +18,7 @@ ghost use lib.ListN.{length, take};
 ghost use Rattle.complex.specs.Numbers.{count};
 ghost use Rattle.complex.specs.Parts.{part};
 ghost use Rattle.model.specs.Chain.{withBond};
-ghost use Rattle.model.specs.Slots.{held, slotOf};
+ghost use Rattle.model.specs.Slots.{State, held, slotOf};
 ghost use Rattle.model.specs.Qr.{kept, qr};
 ghost use Rattle.model.specs.Moves.{rightMatrix, leftMatrix, stepRight, stepLeft, walkRight, walkLeft, moved, established, centeredOn, prepared, preparedOn};
 ghost use Rattle.moves.specs.Ready.{Ready};
@@ -274,13 +274,9 @@ pub fn establish_center(chain: Chain, store: &mut [f64], work: &mut [f64], to: u
     ensures { λ r. ⌜ held r (now (store .exit)) ≡ established to (held chain (now (store .entry))) ⌝ }
 {
     let last = chain.num_qubits - 1;
-    if 2 * to <= last {
-        let out = move_center(chain, store, work, last, 0);
-        move_center(out, store, work, 0, to)
-    } else {
-        let out = move_center(chain, store, work, 0, last);
-        move_center(out, store, work, last, to)
-    }
+    let far = if 2 * to <= last { last } else { 0 };
+    let out = move_center(chain, store, work, far, last - far);
+    move_center(out, store, work, last - far, to)
 }
 
 // The centre onto a site, from where it is.
@@ -293,6 +289,36 @@ pub fn center_on(chain: Chain, store: &mut [f64], work: &mut [f64], k: usize) ->
     match center {
         Center::Unknown => establish_center(chain, store, work, k),
         Center::At(from) => move_center(chain, store, work, from, k),
+    }
+}
+
+// Where the centre goes before a cut, and the side that the cut shall leave it on.
+struct Aim {
+    side: WeightSide,
+    site: usize,
+}
+
+// The site of the pair k, k + 1 that is nearer to the centre.
+fn aim_at(center: Center, k: usize) -> Aim
+    requires { ⌜ k < 64 ⌝ }
+    ensures { λ r. ⌜ (r .site ≤ k + 1) × ((s : State) → prepared (r .side) (centeredOn (r .site) center s) ≡ preparedOn k center s) ⌝ }
+{
+    match center {
+        Center::Unknown => Aim {
+            side: WeightSide::Right,
+            site: k,
+        },
+        Center::At(from) => if from <= k {
+            Aim {
+                side: WeightSide::Right,
+                site: k,
+            }
+        } else {
+            Aim {
+                side: WeightSide::Left,
+                site: k + 1,
+            }
+        },
     }
 }
 
@@ -309,28 +335,8 @@ pub fn prepare_center(chain: Chain, store: &mut [f64], work: &mut [f64], k: usiz
     ensures { λ r. ⌜ prepared (r .side) (held (r .chain) (now (store .exit))) ≡ preparedOn k (chain .center) (held chain (now (store .entry))) ⌝ }
 {
     let center = chain.center;
-    match center {
-        Center::Unknown => {
-            let out = establish_center(chain, store, work, k);
-            Prepared {
-                side: WeightSide::Right,
-                chain: out,
-            }
-        }
-        Center::At(from) => {
-            if from <= k {
-                let out = move_center(chain, store, work, from, k);
-                Prepared {
-                    side: WeightSide::Right,
-                    chain: out,
-                }
-            } else {
-                let out = move_center(chain, store, work, from, k + 1);
-                Prepared {
-                    side: WeightSide::Left,
-                    chain: out,
-                }
-            }
-        }
-    }
+    let aim = aim_at(center, k);
+    let side = aim.side;
+    let out = center_on(chain, store, work, aim.site);
+    Prepared { side, chain: out }
 }

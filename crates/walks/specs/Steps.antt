@@ -8,20 +8,26 @@ use borrow.Author.Tests.{le-leb, lt-leb}
 use lib.ListN.{length, take}
 use lib.Ieee.{Float}
 use Rattle.complex.specs.Complex.{addC, mulC, conjC, zeroC}
-use Rattle.complex.specs.Loops.{each-agree, each-each}
-use Rattle.complex.specs.Numbers.{count, at, stores, numbers, numbers-same, length-stores, at-take, at-area}
-use Rattle.complex.specs.Matrix.{rows, rows-same, quotient, remainder, numbers-flat}
+use Rattle.complex.specs.Loops.{each-agree, each-each, each-more}
+use Rattle.complex.specs.Numbers.{count, at, store, stores, numbers, numbers-same, take-store, length-stores, at-take, at-area}
+use Rattle.complex.specs.Matrix.{rows, rows-same, cell-below, quotient, remainder, numbers-flat}
 use Rattle.complex.specs.declared.Complex.{Complex}
 use Rattle.model.specs.Environment.{Env, leftFew, leftInner, leftMany, leftAcross, rightFew, rightInner, rightMany, rightAcross}
-use Rattle.walks.specs.Products.{envOf, plusUnlessZero, pairLeft, cellLeft, fewLeft, innerLeft, manyLeft, pairRight, cellRight, fewRight, innerRight, manyRight}
+use Rattle.walks.specs.Products.{envOf, plusUnlessZero, termLeft, cellLeft, fewLeft, innerLeft, manyLeft, entryLeft, termRight, cellRight, fewRight, innerRight, manyRight, entryRight}
+
+-- ---- one number more of an area from `to` on, which is computed from what lies before it
+
+pub area-more : (to k : ℕ) (f : List Float → ℕ → Complex) (w₀ w w′ : List Float) (z : Complex) → take (2 * to) w ≡ take (2 * to) w₀ → w ≡ stores k (λ i. to + i) (f (take (2 * to) w₀)) w₀
+    → z ≡ f (take (2 * to) w) k → w′ ≡ store w (to + k) z → (take (2 * to) w′ ≡ take (2 * to) w₀) × (w′ ≡ stores (k + 1) (λ i. to + i) (f (take (2 * to) w₀)) w₀)
+area-more to k f w₀ w w′ z t s v e = (rw e (take-store (2 * to) (to + k) z w (omega arith) ∙ t), rw (each-more, e, v, t, ← s))
 
 -- ---- the left environment's sums
 
-few-left : (bl br : ℕ) (site env : List Float) (g g' : ℕ) → fewLeft bl br site env g g' ≡ leftFew bl br site (envOf bl env) g g'
-unfolding fewLeft cellLeft pairLeft
-few-left bl br site env g g' =
-    sym (each-each bl bl (λ k. cellLeft br site (k / bl) (k % bl) g g' (at env k)) zeroC)
-    ∙ each-agree bl _ _ zeroC (λ a z _. each-agree bl _ _ z (λ a' y l. rw (quotient bl a a' l, remainder bl a a' l)))
+few-left : (bl br : ℕ) (site env front : List Float) (g g' : ℕ) → ((k : ℕ) → k < bl * bl → at front k ≡ at env k) → fewLeft bl br site front g g' ≡ leftFew bl br site (envOf bl env) g g'
+unfolding fewLeft cellLeft termLeft
+few-left bl br site env front g g' same =
+    sym (each-each bl bl (λ k. cellLeft br site (k / bl) (k % bl) g g' (at front k)) zeroC)
+    ∙ each-agree bl _ _ zeroC (λ a z m. each-agree bl _ _ z (λ a' y l. rw (quotient bl a a' l, remainder bl a a' l, same (a * bl + a') (cell-below bl bl a a' l m))))
 
 inner-left : (bl br : ℕ) (site env : List Float) (a' i g : ℕ) → innerLeft bl br site env a' (i * br + g) ≡ leftInner bl br site (envOf bl env) a' i g
 unfolding innerLeft plusUnlessZero
@@ -43,11 +49,11 @@ many-left bl br mid site env front g g' h inner =
 
 -- ---- the right environment's sums
 
-few-right : (bl br : ℕ) (site env : List Float) (a a' : ℕ) → fewRight br site env a a' ≡ rightFew bl br site (envOf br env) a a'
-unfolding fewRight cellRight pairRight
-few-right bl br site env a a' =
-    sym (each-each br br (λ k. cellRight br site a a' (k / br) (k % br) (at env k)) zeroC)
-    ∙ each-agree br _ _ zeroC (λ b z _. each-agree br _ _ z (λ b' y l. rw (quotient br b b' l, remainder br b b' l)))
+few-right : (bl br : ℕ) (site env front : List Float) (a a' : ℕ) → ((k : ℕ) → k < br * br → at front k ≡ at env k) → fewRight br site front a a' ≡ rightFew bl br site (envOf br env) a a'
+unfolding fewRight cellRight termRight
+few-right bl br site env front a a' same =
+    sym (each-each br br (λ k. cellRight br site a a' (k / br) (k % br) (at front k)) zeroC)
+    ∙ each-agree br _ _ zeroC (λ b z m. each-agree br _ _ z (λ b' y l. rw (quotient br b b' l, remainder br b b' l, same (b * br + b') (cell-below br br b b' l m))))
 
 inner-right : (br : ℕ) (site env : List Float) (a i b' : ℕ) → innerRight br site env (a * 2 + i) b' ≡ rightInner br site (envOf br env) a i b'
 unfolding innerRight
@@ -73,21 +79,26 @@ area-rows : (n to : ℕ) (f : ℕ → ℕ → Complex) (w : List Float) → to +
     → numbers (n * n) (λ k. at (stores (n * n) (λ k. to + k) (λ k. f (k / n) (k % n)) w) (to + k)) ≡ rows n (λ r. numbers n (λ c. f r c))
 area-rows n to f w room = numbers-same (n * n) _ _ (λ k l. at-area (n * n) to (λ k. f (k / n) (k % n)) w k room l) ∙ numbers-flat n n f
 
+-- the first n numbers of a longer front
+front-same : (n to : ℕ) (w : List Float) → n ≤ to → (k : ℕ) → k < n → at (take (2 * to) w) k ≡ at (take (2 * n) w) k
+front-same n to w h k l = at-take (2 * to) k w (omega arith) ∙ sym (at-take (2 * n) k w (omega arith))
+
 module _ (bl br : ℕ) (site w : List Float) where
-  pub left-few-copied : (to : ℕ) (w₁ : List Float) → bl * br ≤ 4 → to + br * br ≤ count w
-      → w₁ ≡ stores (br * br) (λ k. to + k) (λ k. fewLeft bl br site (take (2 * (bl * bl)) w) (k / br) (k % br)) w
-      → numbers (br * br) (λ k. at w₁ (to + k)) ≡ leftAcross bl br site (envOf bl (take (2 * (bl * bl)) w)) .entries
-  unfolding leftAcross
-  left-few-copied to w₁ h room e =
-      rw e
-      (area-rows br to (fewLeft bl br site (take (2 * (bl * bl)) w)) w room
-      ∙ rows-same br _ _ (λ g _. numbers-same br _ _ (λ g' _. rw (le-leb (bl * br) 4 h) (few-left bl br site (take (2 * (bl * bl)) w) g g'))))
+  pub left-few-copied : (w₁ w₂ : List Float) → bl * br ≤ 4 → bl * bl + bl * (2 * br) + br * br ≤ count w → w₁ ≡ w
+      → w₂ ≡ stores (br * br) (λ k. bl * bl + bl * (2 * br) + k) (λ k. entryLeft bl br (bl * bl) site (take (2 * (bl * bl + bl * (2 * br))) w₁) (k / br) (k % br)) w₁
+      → numbers (br * br) (λ k. at w₂ (bl * bl + bl * (2 * br) + k)) ≡ leftAcross bl br site (envOf bl (take (2 * (bl * bl)) w)) .entries
+  unfolding leftAcross entryLeft
+  left-few-copied w₁ w₂ h room e₁ e₂ =
+      let to = bl * bl + bl * (2 * br) in
+      rw (e₂, e₁)
+      (area-rows br to (entryLeft bl br (bl * bl) site (take (2 * to) w)) w room
+      ∙ rows-same br _ _ (λ g _. numbers-same br _ _ (λ g' _. rw (le-leb (bl * br) 4 h) (few-left bl br site _ (take (2 * to) w) g g' (front-same (bl * bl) to w (omega arith))))))
 
   pub left-many-copied : (w₁ w₂ : List Float) → 4 < bl * br → bl * bl + bl * (2 * br) + br * br ≤ count w
       → w₁ ≡ stores (bl * (2 * br)) (λ k. bl * bl + k) (λ k. innerLeft bl br site (take (2 * (bl * bl)) w) (k / (2 * br)) (k % (2 * br))) w
-      → w₂ ≡ stores (br * br) (λ k. bl * bl + bl * (2 * br) + k) (λ k. manyLeft bl br (bl * bl) site (take (2 * (bl * bl + bl * (2 * br))) w₁) (k / br) (k % br)) w₁
+      → w₂ ≡ stores (br * br) (λ k. bl * bl + bl * (2 * br) + k) (λ k. entryLeft bl br (bl * bl) site (take (2 * (bl * bl + bl * (2 * br))) w₁) (k / br) (k % br)) w₁
       → numbers (br * br) (λ k. at w₂ (bl * bl + bl * (2 * br) + k)) ≡ leftAcross bl br site (envOf bl (take (2 * (bl * bl)) w)) .entries
-  unfolding leftAcross
+  unfolding leftAcross entryLeft
   left-many-copied w₁ w₂ h room e₁ e₂ =
       let mid = bl * bl in
       let to = mid + bl * (2 * br) in
@@ -97,23 +108,24 @@ module _ (bl br : ℕ) (site w : List Float) where
       let held : (k : ℕ) → k < bl * (2 * br) → at (take (2 * to) w₁) (mid + k) ≡ inner k
       = λ k m. at-take (2 * to) (mid + k) w₁ (omega arith) ∙ ap (λ (ws : List Float). at ws (mid + k)) e₁ ∙ at-area (bl * (2 * br)) mid inner w k (omega arith) m in
       rw e₂
-      (area-rows br to (manyLeft bl br mid site (take (2 * to) w₁)) w₁ (omega arith)
+      (area-rows br to (entryLeft bl br mid site (take (2 * to) w₁)) w₁ (omega arith)
       ∙ rows-same br _ _ (λ g m. numbers-same br _ _ (λ g' _. rw (lt-leb (bl * br) 4 h) (many-left bl br mid site env (take (2 * to) w₁) g g' m held))))
 
-  pub right-few-copied : (to : ℕ) (w₁ : List Float) → bl * br ≤ 4 → to + bl * bl ≤ count w
-      → w₁ ≡ stores (bl * bl) (λ k. to + k) (λ k. fewRight br site (take (2 * (br * br)) w) (k / bl) (k % bl)) w
-      → numbers (bl * bl) (λ k. at w₁ (to + k)) ≡ rightAcross bl br site (envOf br (take (2 * (br * br)) w)) .entries
-  unfolding rightAcross
-  right-few-copied to w₁ h room e =
-      rw e
-      (area-rows bl to (fewRight br site (take (2 * (br * br)) w)) w room
-      ∙ rows-same bl _ _ (λ a _. numbers-same bl _ _ (λ a' _. rw (le-leb (bl * br) 4 h) (few-right bl br site (take (2 * (br * br)) w) a a'))))
+  pub right-few-copied : (w₁ w₂ : List Float) → bl * br ≤ 4 → br * br + 2 * bl * br + bl * bl ≤ count w → w₁ ≡ w
+      → w₂ ≡ stores (bl * bl) (λ k. br * br + 2 * bl * br + k) (λ k. entryRight bl br (br * br) site (take (2 * (br * br + 2 * bl * br)) w₁) (k / bl) (k % bl)) w₁
+      → numbers (bl * bl) (λ k. at w₂ (br * br + 2 * bl * br + k)) ≡ rightAcross bl br site (envOf br (take (2 * (br * br)) w)) .entries
+  unfolding rightAcross entryRight
+  right-few-copied w₁ w₂ h room e₁ e₂ =
+      let to = br * br + 2 * bl * br in
+      rw (e₂, e₁)
+      (area-rows bl to (entryRight bl br (br * br) site (take (2 * to) w)) w room
+      ∙ rows-same bl _ _ (λ a _. numbers-same bl _ _ (λ a' _. rw (le-leb (bl * br) 4 h) (few-right bl br site _ (take (2 * to) w) a a' (front-same (br * br) to w (omega arith))))))
 
   pub right-many-copied : (w₁ w₂ : List Float) → 4 < bl * br → br * br + 2 * bl * br + bl * bl ≤ count w
       → w₁ ≡ stores (2 * bl * br) (λ k. br * br + k) (λ k. innerRight br site (take (2 * (br * br)) w) (k / br) (k % br)) w
-      → w₂ ≡ stores (bl * bl) (λ k. br * br + 2 * bl * br + k) (λ k. manyRight br (br * br) site (take (2 * (br * br + 2 * bl * br)) w₁) (k / bl) (k % bl)) w₁
+      → w₂ ≡ stores (bl * bl) (λ k. br * br + 2 * bl * br + k) (λ k. entryRight bl br (br * br) site (take (2 * (br * br + 2 * bl * br)) w₁) (k / bl) (k % bl)) w₁
       → numbers (bl * bl) (λ k. at w₂ (br * br + 2 * bl * br + k)) ≡ rightAcross bl br site (envOf br (take (2 * (br * br)) w)) .entries
-  unfolding rightAcross
+  unfolding rightAcross entryRight
   right-many-copied w₁ w₂ h room e₁ e₂ =
       let mid = br * br in
       let to = mid + 2 * bl * br in
@@ -123,7 +135,7 @@ module _ (bl br : ℕ) (site w : List Float) where
       let held : (k : ℕ) → k < 2 * bl * br → at (take (2 * to) w₁) (mid + k) ≡ inner k
       = λ k m. at-take (2 * to) (mid + k) w₁ (omega arith) ∙ ap (λ (ws : List Float). at ws (mid + k)) e₁ ∙ at-area (2 * bl * br) mid inner w k (omega arith) m in
       rw e₂
-      (area-rows bl to (manyRight br mid site (take (2 * to) w₁)) w₁ (omega arith)
+      (area-rows bl to (entryRight bl br mid site (take (2 * to) w₁)) w₁ (omega arith)
       ∙ rows-same bl _ _ (λ a m. numbers-same bl _ _ (λ a' _. rw (lt-leb (bl * br) 4 h) (many-right bl br mid site env (take (2 * to) w₁) a a' m held))))
 
 -- ---- a list of the new entries is the new environment, where the next step begins

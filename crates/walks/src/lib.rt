@@ -14,8 +14,9 @@ ghost use lib.Dec.{eqb};
 ghost use lib.ListN.{length, take};
 ghost use Rattle.complex.specs.Complex.{real, zeroC, oneF};
 ghost use Rattle.complex.specs.Numbers.{count, at, stores, numbers};
+ghost use Rattle.model.specs.Slots.{amplitude};
 ghost use Rattle.model.specs.Environment.{identityEnv, leftAcross, rightAcross};
-ghost use Rattle.walks.specs.Products.{plusUnlessZero, pairLeft, cellLeft, fewLeft, innerLeft, manyLeft, pairRight, cellRight, fewRight, innerRight, manyRight};
+ghost use Rattle.walks.specs.Products.{InSite, plusUnlessZero, termLeft, cellLeft, fewLeft, innerLeft, manyLeft, entryLeft, termRight, cellRight, fewRight, innerRight, manyRight, entryRight};
 
 // ---- the identity, and the way to the front
 
@@ -50,6 +51,14 @@ fn copy_down(work: &mut [f64], from: usize, n: usize)
     }
 }
 
+// The amplitude of a site at left index a, bit i and right index b.
+fn amplitude_at(site: &[f64], br: usize, a: usize, i: usize, b: usize) -> Complex
+    requires { ⌜ InSite br a i b (now site) ⌝ }
+    ensures { λ r. ⌜ r ≡ amplitude (now (site .entry)) br a i b ⌝ }
+{
+    complex_at(site, a * (2 * br) + i * br + b)
+}
+
 // ---- a left environment across a site
 
 // acc plus e x, unless e is zero.
@@ -59,8 +68,8 @@ fn plus_unless_zero(e: Complex, x: Complex, acc: Complex) -> Complex
     if is_zero(e) { acc } else { add(acc, mul(e, x)) }
 }
 
-// Both terms of the entry e of a left environment at (a, a1).
-fn left_pair(
+// The term of the bit i of the entry e of a left environment at (a, a1), added to acc.
+fn left_term(
     site: &[f64],
     br: usize,
     a: usize,
@@ -68,20 +77,18 @@ fn left_pair(
     g: usize,
     g1: usize,
     e: Complex,
+    i: usize,
     acc: Complex,
 ) -> Complex
-    requires { ⌜ (br ≤ 128) × (g < br) × (g1 < br) × (a * (2 * br) + 2 * br ≤ count (now site)) × (a1 * (2 * br) + 2 * br ≤ count (now site)) ⌝ }
-    ensures { λ r. ⌜ r ≡ pairLeft br (now (site .entry)) a a1 g g1 e acc ⌝ }
+    requires { ⌜ InSite br a i g (now site) × InSite br a1 i g1 (now site) ⌝ }
+    ensures { λ r. ⌜ r ≡ termLeft br (now (site .entry)) a a1 g g1 e i acc ⌝ }
 {
-    let mut sum = acc;
-    for i in 0..2usize {
-        let x = complex_at(site, a * (2 * br) + i * br + g);
-        let y = complex_at(site, a1 * (2 * br) + i * br + g1);
-        sum = add(sum, mul(mul(e, x), conj(y)));
-    }
-    sum
+    let x = amplitude_at(site, br, a, i, g);
+    let y = amplitude_at(site, br, a1, i, g1);
+    add(acc, mul(mul(e, x), conj(y)))
 }
 
+// Both terms of an entry, unless it is zero.
 fn left_cell(
     site: &[f64],
     br: usize,
@@ -98,7 +105,8 @@ fn left_cell(
     if is_zero(e) {
         acc
     } else {
-        left_pair(site, br, a, a1, g, g1, e, acc)
+        let z = left_term(site, br, a, a1, g, g1, e, 0, acc);
+        left_term(site, br, a, a1, g, g1, e, 1, z)
     }
 }
 
@@ -150,6 +158,26 @@ fn left_many(
     acc
 }
 
+// The entry (g, g1) of the new environment: the sum over four indices for few bonds, else from the inner sums.
+fn left_entry(
+    front: &[f64],
+    site: &[f64],
+    bl: usize,
+    br: usize,
+    mid: usize,
+    g: usize,
+    g1: usize,
+) -> Complex
+    requires { ⌜ (1 ≤ bl) × (bl ≤ 128) × (br ≤ 128) × (g < br) × (g1 < br) × (bl * bl ≤ mid) × (mid + bl * (2 * br) ≤ count (now front)) × (bl * (2 * br) ≤ count (now site)) ⌝ }
+    ensures { λ r. ⌜ r ≡ entryLeft bl br mid (now (site .entry)) (now (front .entry)) g g1 ⌝ }
+{
+    if bl * br <= 4 {
+        left_few(front, site, bl, br, g, g1)
+    } else {
+        left_many(front, site, bl, br, mid, g, g1)
+    }
+}
+
 // The inner sums, behind the environment.
 fn fill_left_inner(site: &[f64], work: &mut [f64], bl: usize, br: usize)
     requires { ⌜ (1 ≤ br) × (bl ≤ 128) × (br ≤ 128) × (bl * (2 * br) ≤ count (now site)) × (bl * bl + bl * (2 * br) ≤ count (now work)) ⌝ }
@@ -165,28 +193,15 @@ fn fill_left_inner(site: &[f64], work: &mut [f64], bl: usize, br: usize)
     }
 }
 
-// The new environment from the inner sums, behind them.
-fn fill_left_many(site: &[f64], work: &mut [f64], bl: usize, br: usize, mid: usize, to: usize)
-    requires { ⌜ (1 ≤ br) × (bl ≤ 128) × (br ≤ 128) × (bl * (2 * br) ≤ count (now site)) × (mid + bl * (2 * br) ≤ to) × (to + br * br ≤ count (now work)) ⌝ }
-    ensures { λ _. ⌜ now (work .exit) ≡ stores (br * br) (λ k. to + k) (λ k. manyLeft bl br mid (now (site .entry)) (take (2 * to) (now (work .entry))) (k / br) (k % br)) (now (work .entry)) ⌝ }
+// The new environment, behind the inner sums.
+fn fill_left(site: &[f64], work: &mut [f64], bl: usize, br: usize, mid: usize, to: usize)
+    requires { ⌜ (1 ≤ bl) × (1 ≤ br) × (bl ≤ 128) × (br ≤ 128) × (bl * (2 * br) ≤ count (now site)) × (bl * bl ≤ mid) × (mid + bl * (2 * br) ≤ to) × (to + br * br ≤ count (now work)) ⌝ }
+    ensures { λ _. ⌜ now (work .exit) ≡ stores (br * br) (λ k. to + k) (λ k. entryLeft bl br mid (now (site .entry)) (take (2 * to) (now (work .entry))) (k / br) (k % br)) (now (work .entry)) ⌝ }
 {
     let e = 2 * to;
     let n = br * br;
     for k in 0..n {
-        let z = left_many(&work[..e], site, bl, br, mid, k / br, k % br);
-        set_complex(work, to + k, z);
-    }
-}
-
-// The new environment by the sum over four indices, at the same place.
-fn fill_left_few(site: &[f64], work: &mut [f64], bl: usize, br: usize, to: usize)
-    requires { ⌜ (1 ≤ bl) × (1 ≤ br) × (bl ≤ 128) × (br ≤ 128) × (bl * (2 * br) ≤ count (now site)) × (bl * bl ≤ to) × (to + br * br ≤ count (now work)) ⌝ }
-    ensures { λ _. ⌜ now (work .exit) ≡ stores (br * br) (λ k. to + k) (λ k. fewLeft bl br (now (site .entry)) (take (2 * (bl * bl)) (now (work .entry))) (k / br) (k % br)) (now (work .entry)) ⌝ }
-{
-    let e = 2 * (bl * bl);
-    let n = br * br;
-    for k in 0..n {
-        let z = left_few(&work[..e], site, bl, br, k / br, k % br);
+        let z = left_entry(&work[..e], site, bl, br, mid, k / br, k % br);
         set_complex(work, to + k, z);
     }
 }
@@ -199,20 +214,17 @@ pub fn left_across(site: &[f64], work: &mut [f64], bl: usize, br: usize)
 {
     let mid = bl * bl;
     let to = mid + bl * (2 * br);
-    if bl * br <= 4 {
-        fill_left_few(site, work, bl, br, to);
-        copy_down(work, to, br * br);
-    } else {
+    if bl * br > 4 {
         fill_left_inner(site, work, bl, br);
-        fill_left_many(site, work, bl, br, mid, to);
-        copy_down(work, to, br * br);
     }
+    fill_left(site, work, bl, br, mid, to);
+    copy_down(work, to, br * br);
 }
 
 // ---- a right environment across a site
 
-// Both terms of the entry e of a right environment at (b, b1).
-fn right_pair(
+// The term of the bit i of the entry e of a right environment at (b, b1), added to acc.
+fn right_term(
     site: &[f64],
     br: usize,
     a: usize,
@@ -220,20 +232,18 @@ fn right_pair(
     b: usize,
     b1: usize,
     e: Complex,
+    i: usize,
     acc: Complex,
 ) -> Complex
-    requires { ⌜ (br ≤ 128) × (b < br) × (b1 < br) × (a * (2 * br) + 2 * br ≤ count (now site)) × (a1 * (2 * br) + 2 * br ≤ count (now site)) ⌝ }
-    ensures { λ r. ⌜ r ≡ pairRight br (now (site .entry)) a a1 b b1 e acc ⌝ }
+    requires { ⌜ InSite br a i b (now site) × InSite br a1 i b1 (now site) ⌝ }
+    ensures { λ r. ⌜ r ≡ termRight br (now (site .entry)) a a1 b b1 e i acc ⌝ }
 {
-    let mut sum = acc;
-    for i in 0..2usize {
-        let x = complex_at(site, a * (2 * br) + i * br + b);
-        let y = complex_at(site, a1 * (2 * br) + i * br + b1);
-        sum = add(sum, mul(mul(x, conj(y)), e));
-    }
-    sum
+    let x = amplitude_at(site, br, a, i, b);
+    let y = amplitude_at(site, br, a1, i, b1);
+    add(acc, mul(mul(x, conj(y)), e))
 }
 
+// Both terms of an entry, unless it is zero.
 fn right_cell(
     site: &[f64],
     br: usize,
@@ -250,7 +260,8 @@ fn right_cell(
     if is_zero(e) {
         acc
     } else {
-        right_pair(site, br, a, a1, b, b1, e, acc)
+        let z = right_term(site, br, a, a1, b, b1, e, 0, acc);
+        right_term(site, br, a, a1, b, b1, e, 1, z)
     }
 }
 
@@ -294,6 +305,26 @@ fn right_many(front: &[f64], site: &[f64], br: usize, mid: usize, a: usize, a1: 
     acc
 }
 
+// The entry (a, a1) of the new environment: the sum over four indices for few bonds, else from the inner sums.
+fn right_entry(
+    front: &[f64],
+    site: &[f64],
+    bl: usize,
+    br: usize,
+    mid: usize,
+    a: usize,
+    a1: usize,
+) -> Complex
+    requires { ⌜ (1 ≤ br) × (bl ≤ 128) × (br ≤ 128) × (a < bl) × (a1 < bl) × (br * br ≤ mid) × (mid + 2 * bl * br ≤ count (now front)) × (2 * bl * br ≤ count (now site)) ⌝ }
+    ensures { λ r. ⌜ r ≡ entryRight bl br mid (now (site .entry)) (now (front .entry)) a a1 ⌝ }
+{
+    if bl * br <= 4 {
+        right_few(front, site, br, a, a1)
+    } else {
+        right_many(front, site, br, mid, a, a1)
+    }
+}
+
 // The inner sums, behind the environment.
 fn fill_right_inner(site: &[f64], work: &mut [f64], bl: usize, br: usize)
     requires { ⌜ (1 ≤ br) × (bl ≤ 128) × (br ≤ 128) × (2 * bl * br ≤ count (now site)) × (br * br + 2 * bl * br ≤ count (now work)) ⌝ }
@@ -308,28 +339,15 @@ fn fill_right_inner(site: &[f64], work: &mut [f64], bl: usize, br: usize)
     }
 }
 
-// The new environment from the inner sums, behind them.
-fn fill_right_many(site: &[f64], work: &mut [f64], bl: usize, br: usize, mid: usize, to: usize)
-    requires { ⌜ (1 ≤ bl) × (bl ≤ 128) × (br ≤ 128) × (2 * bl * br ≤ count (now site)) × (mid + 2 * bl * br ≤ to) × (to + bl * bl ≤ count (now work)) ⌝ }
-    ensures { λ _. ⌜ now (work .exit) ≡ stores (bl * bl) (λ k. to + k) (λ k. manyRight br mid (now (site .entry)) (take (2 * to) (now (work .entry))) (k / bl) (k % bl)) (now (work .entry)) ⌝ }
+// The new environment, behind the inner sums.
+fn fill_right(site: &[f64], work: &mut [f64], bl: usize, br: usize, mid: usize, to: usize)
+    requires { ⌜ (1 ≤ bl) × (1 ≤ br) × (bl ≤ 128) × (br ≤ 128) × (2 * bl * br ≤ count (now site)) × (br * br ≤ mid) × (mid + 2 * bl * br ≤ to) × (to + bl * bl ≤ count (now work)) ⌝ }
+    ensures { λ _. ⌜ now (work .exit) ≡ stores (bl * bl) (λ k. to + k) (λ k. entryRight bl br mid (now (site .entry)) (take (2 * to) (now (work .entry))) (k / bl) (k % bl)) (now (work .entry)) ⌝ }
 {
     let e = 2 * to;
     let n = bl * bl;
     for k in 0..n {
-        let z = right_many(&work[..e], site, br, mid, k / bl, k % bl);
-        set_complex(work, to + k, z);
-    }
-}
-
-// The new environment by the sum over four indices, at the same place.
-fn fill_right_few(site: &[f64], work: &mut [f64], bl: usize, br: usize, to: usize)
-    requires { ⌜ (1 ≤ bl) × (1 ≤ br) × (bl ≤ 128) × (br ≤ 128) × (2 * bl * br ≤ count (now site)) × (br * br ≤ to) × (to + bl * bl ≤ count (now work)) ⌝ }
-    ensures { λ _. ⌜ now (work .exit) ≡ stores (bl * bl) (λ k. to + k) (λ k. fewRight br (now (site .entry)) (take (2 * (br * br)) (now (work .entry))) (k / bl) (k % bl)) (now (work .entry)) ⌝ }
-{
-    let e = 2 * (br * br);
-    let n = bl * bl;
-    for k in 0..n {
-        let z = right_few(&work[..e], site, br, k / bl, k % bl);
+        let z = right_entry(&work[..e], site, bl, br, mid, k / bl, k % bl);
         set_complex(work, to + k, z);
     }
 }
@@ -342,12 +360,9 @@ pub fn right_across(site: &[f64], work: &mut [f64], bl: usize, br: usize)
 {
     let mid = br * br;
     let to = mid + 2 * bl * br;
-    if bl * br <= 4 {
-        fill_right_few(site, work, bl, br, to);
-        copy_down(work, to, bl * bl);
-    } else {
+    if bl * br > 4 {
         fill_right_inner(site, work, bl, br);
-        fill_right_many(site, work, bl, br, mid, to);
-        copy_down(work, to, bl * bl);
     }
+    fill_right(site, work, bl, br, mid, to);
+    copy_down(work, to, bl * bl);
 }

@@ -1,5 +1,5 @@
 -- The invariant: the first g numbers of out are the row's.
-use mathlib.Core.Path.{_≡_}
+use mathlib.Core.Path.{_≡_, _∙_}
 use Prim.Native.Nat.{_≤_, _-_, _+_, _*_}
 use native.Mathlib.Nat.{mul-le-mul-right, le-antisymm}
 use native.Mathlib.Omega.{arith}
@@ -44,7 +44,7 @@ same-length : tie.Need-same-length Inv-loop μ-loop
 same-length c = omega arith
 
 returns : tie.Need-returns Inv-loop μ-loop
-returns c = cc (le-antisymm (c .before .loop .inv .0) (c .loop-test .left), stores-numbers (c .before .before .before .before .before .args .chi) (λ g. sumC (c .before .before .before .before .before .args .bond) (λ d. mulC (at (c .before .before .before .before .before .args .prev .now) (c .before .before .before .before .before .args .r * c .before .before .before .before .before .args .bond + d)) (conjC (at (c .before .before .before .before .before .args .w .now) (c .before .before .before .before .before .args .from + (g * c .before .before .before .before .before .args .bond + d))))) zeroC) (c .before .before .before .before .before .args .out .now) (omega arith))
+returns c = rw (le-antisymm (c .before .loop .inv .0) (c .loop-test .left)) at (c .before .loop .inv .2) ∙ stores-numbers (c .before .before .before .before .before .args .chi) (λ g. sumC (c .before .before .before .before .before .args .bond) (λ d. mulC (at (c .before .before .before .before .before .args .prev .now) (c .before .before .before .before .before .args .r * c .before .before .before .before .before .args .bond + d)) (conjC (at (c .before .before .before .before .before .args .w .now) (c .before .before .before .before .before .args .from + (g * c .before .before .before .before .before .args .bond + d))))) zeroC) (c .before .before .before .before .before .args .out .now) (omega arith)
 
 pub left-row-spec : {M : Type 1} → statement M
 left-row-spec =

@@ -1,5 +1,5 @@
 -- The invariant: the first r rows stand in out, and the rest is as it was.
-use mathlib.Core.Path.{_≡_}
+use mathlib.Core.Path.{_≡_, _∙_}
 use mathlib.Core.List.{_++_}
 use Prim.Native.Nat.{_≤_, _-_, _+_, _*_}
 use native.Mathlib.Nat.{mul-le-mul-right, le-antisymm, zero-mul}
@@ -69,7 +69,7 @@ same-length c = omega arith
 
 returns : tie.Need-returns Inv-loop μ-loop
 unfolding absorbedLeft
-returns c = cc (le-antisymm (c .before .loop .inv .0) (c .loop-test .left), block-all (2 * c .before .before .before .before .before .args .chi) (λ r. numbers (c .before .before .before .before .before .args .chi) (λ g. sumC (c .before .before .before .before .before .args .bond) (λ d. mulC (at (c .before .before .before .before .before .args .prev .now) (r * c .before .before .before .before .before .args .bond + d)) (conjC (at (c .before .before .before .before .before .args .w .now) (c .before .before .before .before .before .args .bond * (2 * c .before .before .before .before .before .args .br) + (g * c .before .before .before .before .before .args .bond + d))))) zeroC)) (λ g. length-numbers (c .before .before .before .before .before .args .chi) _) (2 * c .before .before .before .before .before .args .bl) (c .before .before .before .before .before .args .out .now) (omega arith))
+returns c = rw (le-antisymm (c .before .loop .inv .0) (c .loop-test .left)) at (c .before .loop .inv .2) ∙ block-all (2 * c .before .before .before .before .before .args .chi) (λ r. numbers (c .before .before .before .before .before .args .chi) (λ g. sumC (c .before .before .before .before .before .args .bond) (λ d. mulC (at (c .before .before .before .before .before .args .prev .now) (r * c .before .before .before .before .before .args .bond + d)) (conjC (at (c .before .before .before .before .before .args .w .now) (c .before .before .before .before .before .args .bond * (2 * c .before .before .before .before .before .args .br) + (g * c .before .before .before .before .before .args .bond + d))))) zeroC)) (λ g. length-numbers (c .before .before .before .before .before .args .chi) _) (2 * c .before .before .before .before .before .args .bl) (c .before .before .before .before .before .args .out .now) (omega arith)
 
 pub left-rows-spec : {M : Type 1} → statement M
 left-rows-spec =

@@ -1,5 +1,5 @@
 -- The invariant: the first g columns stand in out, and the rest is as it was.
-use mathlib.Core.Path.{_≡_}
+use mathlib.Core.Path.{_≡_, _∙_}
 use mathlib.Core.List.{_++_}
 use Prim.Native.Nat.{_≤_, _-_, _+_, _*_}
 use native.Mathlib.Nat.{mul-le-mul-right, le-antisymm, zero-mul}
@@ -59,7 +59,7 @@ same-length : tie.Need-same-length Inv-loop μ-loop
 same-length c = omega arith
 
 returns : tie.Need-returns Inv-loop μ-loop
-returns c = cc (le-antisymm (c .before .loop .inv .0) (c .loop-test .left), block-all (2 * (2 * c .before .before .before .before .args .bl)) (λ g. numbers (2 * c .before .before .before .before .args .bl) (λ r. at (c .before .before .before .before .args .site .now) (r * c .before .before .before .before .args .bond + g))) (λ g. length-numbers (2 * c .before .before .before .before .args .bl) _) (c .before .before .before .before .args .bond) (c .before .before .before .before .args .out .now) (omega arith))
+returns c = rw (le-antisymm (c .before .loop .inv .0) (c .loop-test .left)) at (c .before .loop .inv .2) ∙ block-all (2 * (2 * c .before .before .before .before .args .bl)) (λ g. numbers (2 * c .before .before .before .before .args .bl) (λ r. at (c .before .before .before .before .args .site .now) (r * c .before .before .before .before .args .bond + g))) (λ g. length-numbers (2 * c .before .before .before .before .args .bl) _) (c .before .before .before .before .args .bond) (c .before .before .before .before .args .out .now) (omega arith)
 
 pub right-matrix-spec : {M : Type 1} → statement M
 right-matrix-spec =

@@ -1,5 +1,5 @@
 -- The invariant: the first c numbers of out are the row's.
-use mathlib.Core.Path.{_≡_}
+use mathlib.Core.Path.{_≡_, _∙_}
 use Prim.Native.Nat.{_≤_, _-_, _+_, _*_}
 use native.Mathlib.Nat.{le-antisymm}
 use native.Mathlib.Omega.{arith}
@@ -41,7 +41,7 @@ same-length : tie.Need-same-length Inv-loop μ-loop
 same-length c = omega arith
 
 returns : tie.Need-returns Inv-loop μ-loop
-returns c = cc (le-antisymm (c .before .loop .inv .0) (c .loop-test .left), stores-numbers (c .before .before .before .before .before .args .wide) (λ i. sumC (c .before .before .before .before .before .args .bond) (λ d. mulC (at (c .before .before .before .before .before .args .w .now) (c .before .before .before .before .before .args .from + (c .before .before .before .before .before .args .g * c .before .before .before .before .before .args .bond + d))) (at (c .before .before .before .before .before .args .next .now) (d * c .before .before .before .before .before .args .wide + i))) zeroC) (c .before .before .before .before .before .args .out .now) (omega arith))
+returns c = rw (le-antisymm (c .before .loop .inv .0) (c .loop-test .left)) at (c .before .loop .inv .2) ∙ stores-numbers (c .before .before .before .before .before .args .wide) (λ i. sumC (c .before .before .before .before .before .args .bond) (λ d. mulC (at (c .before .before .before .before .before .args .w .now) (c .before .before .before .before .before .args .from + (c .before .before .before .before .before .args .g * c .before .before .before .before .before .args .bond + d))) (at (c .before .before .before .before .before .args .next .now) (d * c .before .before .before .before .before .args .wide + i))) zeroC) (c .before .before .before .before .before .args .out .now) (omega arith)
 
 pub right-row-spec : {M : Type 1} → statement M
 right-row-spec =

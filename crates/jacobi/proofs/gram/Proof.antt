@@ -61,7 +61,7 @@ loop-again : tie.Need-loop-again Inv-loop μ-loop
 loop-again c = (omega arith, rw (each-more, c .before .before .before .before .norm-sqr .ensures, c .before .before .before .before .before .before .complex-at .ensures, c .before .before .before .before .before .before .before .before .loop .inv .1), rw (each-more, c .before .before .before .norm-sqr2 .ensures, c .before .before .before .before .before .complex-at2 .ensures, c .before .before .before .before .before .before .before .before .loop .inv .2), rw (each-more, c .add .ensures, c .before .mul .ensures, c .before .before .conj .ensures, c .before .before .before .before .before .before .complex-at .ensures, c .before .before .before .before .before .complex-at2 .ensures, c .before .before .before .before .before .before .before .before .loop .inv .3))
 
 returns : tie.Need-returns Inv-loop μ-loop
-returns c = cc (le-antisymm (c .before .loop .inv .0) (c .loop-test .left))
+returns c = let e = le-antisymm (c .before .loop .inv .0) (c .loop-test .left) in let h = c .before .loop .inv in λ i. record { pp = (rw e at (h .1)) i; qq = (rw e at (h .2)) i; pq = (rw e at (h .3)) i }
 
 pub gram-spec : {M : Type 1} → statement M
 gram-spec =

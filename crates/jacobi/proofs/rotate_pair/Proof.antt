@@ -26,7 +26,7 @@ same-length c = search needs
 
 returns : tie.Need-returns
 unfolding rotatedPair
-returns c = cc
+returns c = rw (c .before .before .set-complex2 .ensures, c .before .before .before .rotated-q .ensures, c .before .before .before .before .before .before .before .set-complex .ensures, c .before .before .before .before .before .before .before .before .rotated-p .ensures, c .before .before .before .before .before .before .before .before .before .before .before .before .complex-at .ensures, c .before .before .before .before .before .before .before .before .before .before .complex-at2 .ensures)
 
 pub rotate-pair-spec : {M : Type 1} → statement M
 rotate-pair-spec =

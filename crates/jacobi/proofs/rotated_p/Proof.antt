@@ -17,7 +17,7 @@ add-requires c κs = search needs
 
 returns : tie.Need-returns
 unfolding rotatedP
-returns c = cc
+returns c = rw (c .add .ensures, c .before .before .before .mul .ensures, c .before .mul3 .ensures, c .before .before .mul2 .ensures)
 
 pub rotated-p-spec : {M : Type 1} → statement M
 rotated-p-spec =

@@ -20,7 +20,7 @@ add-requires c κs = search needs
 
 returns : tie.Need-returns
 unfolding rotatedQ
-returns c = cc
+returns c = rw (c .add .ensures, c .before .before .before .mul .ensures, c .before .before .before .before .neg .ensures, c .before .mul3 .ensures, c .before .before .mul2 .ensures)
 
 pub rotated-q-spec : {M : Type 1} → statement M
 rotated-q-spec =

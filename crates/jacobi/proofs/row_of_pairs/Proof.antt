@@ -37,7 +37,7 @@ same-length c = omega arith
 
 returns : tie.Need-returns Inv-loop μ-loop
 unfolding rowOfPairs
-returns c = cc (le-antisymm (c .before .loop .inv .1) (c .loop-test .left))
+returns c = rw (le-antisymm (c .before .loop .inv .1) (c .loop-test .left)) at (c .before .loop .inv .3)
 
 pub row-of-pairs-spec : {M : Type 1} → statement M
 row-of-pairs-spec =

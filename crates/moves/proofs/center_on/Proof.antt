@@ -24,7 +24,7 @@ same-length-2 : tie.Need-same-length-2
 same-length-2 c = search needs
 
 returns : tie.Need-returns
-returns c = let a = c .before .before .before .before .before .before .before .before .before .before .before .args in on-unknown (a .k) (a .chain .center) (held (a .chain) (a .store .now)) (held (c .before .before .before .before .establish-center .result) (c .before .before .before .before .establish-center .last .1 .0)) (c .before .before .before .before .before .before .before .enum-told .given .1) (c .before .before .before .before .establish-center .ensures)
+returns c = let a = c .before .before .before .before .before .before .before .before .before .before .before .args in let m = c .before .before .before .before .establish-center in on-unknown (a .k) (a .chain .center) (held (a .chain) (a .store .now)) (held (m .result) (m .last .1 .0)) (c .before .before .before .before .before .before .before .enum-told .given .1) (m .ensures)
 
 same-length-3 : tie.Need-same-length-3
 same-length-3 c = search needs
@@ -33,7 +33,7 @@ same-length-4 : tie.Need-same-length-4
 same-length-4 c = search needs
 
 returns-2 : tie.Need-returns-2
-returns-2 c = let a = c .before .before .before .before .before .before .before .before .before .before .before .before .args in on-centre (a .k) (a .chain .center) (held (a .chain) (a .store .now)) (held (c .before .before .before .before .move-center .result) (c .before .before .before .before .move-center .last .1 .0)) (c .before .before .before .before .before .before .before .before .center .given .0 .0) (c .before .before .before .before .before .before .before .before .center .given .1) (c .before .before .before .before .move-center .ensures)
+returns-2 c = let a = c .before .before .before .before .before .before .before .before .before .before .before .before .args in let m = c .before .before .before .before .move-center in let at = c .before .before .before .before .before .before .before .before .center .given in on-centre (a .k) (a .chain .center) (at .0 .0) (at .1) (held (a .chain) (a .store .now)) (held (m .result) (m .last .1 .0)) (m .ensures)
 
 pub center-on-spec : {M : Type 1} → statement M
 center-on-spec =

@@ -1,10 +1,6 @@
 -- The factors that are written are those of the site, and the copy serves for the neighbour.
-use mathlib.Core.Path.{ap, _∙_}
-use Prim.Native.Nat.{ℕ}
-use native.Mathlib.Omega.{arith}
-use lib.ListN.{take}
-use Rattle.model.specs.Qr.{Kept, kept}
-use Rattle.moves.specs.Steps.{site-fits, work-fits, first-slot, second-slot, right-written}
+use mathlib.Core.Path.{_∙_}
+use Rattle.moves.specs.Steps.{same-room, right-factored, right-sizes, right-copied, right-stepped}
 use borrow.Author.Needs.{needs}
 use Rattle.moves.proofs.step_right.Statement.{statement}
 use Rattle.moves.proofs.step_right.Tie as tie
@@ -49,7 +45,7 @@ part-factor-right-end : tie.Need-part-factor-right-end
 part-factor-right-end c = search needs
 
 factor-right-requires : tie.Need-factor-right-requires
-factor-right-requires c κs = let a = c .before .before .before .before .before .before .args in let p = c .before .before .before .before .before .before .pre in (search needs, search needs, search needs, search needs, rw (first-slot (a .d) (a .k) (a .store .now) (p .store-room)) (omega (arith, site-fits _ _ _ (p .left) (p .middle))), omega (arith, work-fits _ _ _ _ (p .left) (p .middle) (p .right)))
+factor-right-requires c κs = right-factored (c .before .before .before .before .before .before .pre)
 
 mul-keep-copy : tie.Need-mul-keep-copy
 mul-keep-copy c = search needs
@@ -64,30 +60,28 @@ part-keep-copy-end : tie.Need-part-keep-copy-end
 part-keep-copy-end c = search needs
 
 mul-keep-copy-2 : tie.Need-mul-keep-copy-2
-mul-keep-copy-2 c = search needs
+mul-keep-copy-2 c = right-sizes (c .before .before .before .before .before .before .before .before .before .before .before .before .pre) .0
 
 mul-keep-copy-3 : tie.Need-mul-keep-copy-3
-mul-keep-copy-3 c = let p = c .before .before .before .before .before .before .before .before .before .before .before .before .pre in omega (arith, work-fits _ _ _ _ (p .left) (p .middle) (p .right))
+mul-keep-copy-3 c = right-sizes (c .before .before .before .before .before .before .before .before .before .before .before .before .pre) .1
 
 mul-keep-copy-4 : tie.Need-mul-keep-copy-4
-mul-keep-copy-4 c = let p = c .before .before .before .before .before .before .before .before .before .before .before .before .pre in omega (arith, work-fits _ _ _ _ (p .left) (p .middle) (p .right))
+mul-keep-copy-4 c = right-sizes (c .before .before .before .before .before .before .before .before .before .before .before .before .pre) .2
 
 keep-copy-requires : tie.Need-keep-copy-requires
-keep-copy-requires c κs = let a = c .before .before .before .before .before .before .before .before .before .before .before .before .args in let p = c .before .before .before .before .before .before .before .before .before .before .before .before .pre in (rw (second-slot (a .d) (a .k) (a .store .now) (p .store-room)) (omega (arith, site-fits _ _ _ (p .middle) (p .right))), omega (arith, c .before .before .before .before .before .before .before .before .before .factored-room .ensures, work-fits _ _ _ _ (p .left) (p .middle) (p .right)))
+keep-copy-requires c κs = right-copied (same-room (c .before .before .before .before .before .before .before .before .before .before .before .before .pre) (c .before .before .before .before .before .factor-right .last .1 .0) (c .before .before .before .before .before .factor-right .kept .1 .0)) (c .before .before .before .before .before .before .before .before .before .factored-room .ensures)
 
 write-right-requires : tie.Need-write-right-requires
-write-right-requires c κs = search needs
+write-right-requires c κs = (same-room (c .before .before .before .before .before .before .before .before .before .before .before .before .before .before .before .before .before .pre) (c .before .before .before .before .keep-copy .last .1 .0) (c .before .before .before .before .keep-copy .kept .1 .0 ∙ c .before .before .before .before .before .before .before .before .before .before .factor-right .kept .1 .0), (c .before .before .before .before .before .before .before .before .before .before .factor-right .ensures .1 .1, c .before .before .before .before .before .before .before .before .before .before .before .before .before .before .factored-room .ensures))
 
 same-length : tie.Need-same-length
-same-length c = search needs
+same-length c = c .before .before .write-right .kept .0
 
 same-length-2 : tie.Need-same-length-2
-same-length-2 c = search needs
+same-length-2 c = c .before .before .before .before .before .before .before .keep-copy .kept .1 .0 ∙ c .before .before .before .before .before .before .before .before .before .before .before .before .before .factor-right .kept .1 .0
 
 returns : tie.Need-returns
-returns c = let a = c .before .before .before .before .before .before .before .before .before .before .before .before .before .before .before .before .before .before .before .before .args in let p = c .before .before .before .before .before .before .before .before .before .before .before .before .before .before .before .before .before .before .before .before .pre in
-    let f = ap (kept (c .before .before .before .before .before .before .before .before .before .before .before .before .before .factor-right .result)) (c .before .before .before .before .before .before .before .keep-copy .ensures .0 ∙ ap (λ (j : ℕ). take j (c .before .before .before .before .before .before .before .before .before .before .before .before .before .factor-right .last .1 .0)) (c .before .before .before .before .before .before .before .before .before .before .before .before .before .before .before .before .before .factored-room .ensures)) ∙ c .before .before .before .before .before .before .before .before .before .before .before .before .before .factor-right .ensures .0 in
-    (ap (λ (x : Kept). x .rank) (c .before .before .before .before .before .before .before .before .before .before .before .before .before .factor-right .ensures .0), (c .before .before .write-right .ensures ∙ right-written (a .d) (a .k) (a .bl) (a .bond) (a .br) _ _ _ _ _ f (c .before .before .before .before .before .before .before .keep-copy .ensures .1), omega (arith, c .before .before .before .before .before .before .before .before .before .before .before .before .before .factor-right .ensures .1)))
+returns c = let a = c .before .before .before .before .before .before .before .before .before .before .before .before .before .before .before .before .before .before .before .before .args in let f = c .before .before .before .before .before .before .before .before .before .before .before .before .before .factor-right in let k = c .before .before .before .before .before .before .before .keep-copy in right-stepped (a .d) (a .k) (a .bl) (a .bond) (a .br) (f .result) (c .before .before .before .before .before .before .before .before .before .before .before .before .before .before .before .before .before .factored-room .result) (f .last .1 .0) (k .last .1 .0) (a .store .now) (c .before .before .write-right .last .0) (k .ensures .0) (c .before .before .before .before .before .before .before .before .before .before .before .before .before .before .before .before .before .factored-room .ensures) (f .ensures .1 .1) (f .ensures .0) (k .ensures .1) (c .before .before .write-right .ensures)
 
 pub step-right-spec : {M : Type 1} → statement M
 step-right-spec =

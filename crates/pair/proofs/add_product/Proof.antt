@@ -10,7 +10,7 @@ add-requires : tie.Need-add-requires
 add-requires c κs = search needs
 
 returns : tie.Need-returns
-returns c = cc
+returns c = rw (c .add .ensures, c .before .mul .ensures)
 
 pub add-product-spec : {M : Type 1} → statement M
 add-product-spec = tie.close (tie.spec mul-requires add-requires returns)

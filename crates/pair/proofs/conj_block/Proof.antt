@@ -18,7 +18,7 @@ conj-requires-4 c κs = search needs
 
 returns : tie.Need-returns
 unfolding conjugated
-returns c = cc
+returns c = rw (c .before .before .before .conj .ensures, c .before .before .conj2 .ensures, c .before .conj3 .ensures, c .conj4 .ensures)
 
 pub conj-block-spec : {M : Type 1} → statement M
 conj-block-spec =

@@ -30,7 +30,7 @@ mix-requires-4 c κs = search needs
 
 returns : tie.Need-returns
 unfolding mixedOf
-returns c = cc
+returns c = rw (c .before .before .before .before .before .before .mix .ensures, c .before .before .before .before .mix2 .ensures, c .before .before .mix3 .ensures, c .mix4 .ensures)
 
 pub gate-block-spec : {M : Type 1} → statement M
 gate-block-spec =

@@ -18,7 +18,7 @@ add-product-requires-4 c κs = search needs
 
 returns : tie.Need-returns
 unfolding grown
-returns c = cc
+returns c = rw (c .before .before .before .add-product .ensures, c .before .before .add-product2 .ensures, c .before .add-product3 .ensures, c .add-product4 .ensures)
 
 pub grow-spec : {M : Type 1} → statement M
 grow-spec =

@@ -30,7 +30,7 @@ add-product-requires-4 c κs = search needs
 
 returns : tie.Need-returns
 unfolding mixOf
-returns c = cc
+returns c = rw (c .add-product4 .ensures, c .before .before .add-product3 .ensures, c .before .before .before .before .add-product2 .ensures, c .before .before .before .before .before .before .add-product .ensures)
 
 pub mix-spec : {M : Type 1} → statement M
 mix-spec =

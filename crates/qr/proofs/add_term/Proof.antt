@@ -20,7 +20,7 @@ add-requires c κs = search needs
 
 returns : tie.Need-returns
 unfolding term
-returns c = cc
+returns c = rw (c .add .ensures, c .before .mul .ensures, c .before .before .before .conj .ensures, c .before .before .before .before .complex-at .ensures, c .before .before .complex-at2 .ensures)
 
 pub add-term-spec : {M : Type 1} → statement M
 add-term-spec =

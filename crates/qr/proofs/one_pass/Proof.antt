@@ -1,10 +1,13 @@
-use mathlib.Core.Path.{_≡_}
-use Prim.Native.Nat.{_≤_, _-_}
+use mathlib.Core.Path.{_≡_, ap}
+use mathlib.Core.List.{List}
+use Prim.Native.Nat.{_≤_, _-_, _*_}
 use native.Mathlib.Nat.{le-antisymm, mul-le-mul-right}
 use native.Mathlib.Omega.{arith}
 use lib.ListN.{length}
+use lib.Ieee.{Float}
 use Rattle.complex.specs.Loops.{each, each-none, each-more}
-use Rattle.model.specs.Qr.{projectedOn, passOf}
+use Rattle.model.specs.Columns.{l2Norm}
+use Rattle.model.specs.Qr.{projectedOn, passed, passOf}
 use Rattle.qr.proofs.one_pass.Statement.{statement}
 use Rattle.qr.proofs.one_pass.Tie as tie
 
@@ -40,7 +43,7 @@ same-length c = omega (arith, mul-le-mul-right (c .before .before .before .befor
 
 returns : tie.Need-returns Inv-loop μ-loop
 unfolding passOf
-returns c = cc (le-antisymm (c .before .before .before .loop .inv .0) (c .before .before .loop-test .left))
+returns c = let a = c .before .before .before .before .before .args in rw (c .l2-norm .ensures) (ap (λ (ys : List Float). passed (l2Norm ys (a .j * a .high) (a .high)) ys) (rw (le-antisymm (c .before .before .before .loop .inv .0) (c .before .before .loop-test .left)) at (c .before .before .before .loop .inv .2)))
 
 pub one-pass-spec : {M : Type 1} → statement M
 one-pass-spec =

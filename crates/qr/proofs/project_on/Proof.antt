@@ -50,7 +50,7 @@ same-length c = search needs
 
 returns : tie.Need-returns
 unfolding projectedOn
-returns c = cc
+returns c = rw (c .before .before .set-complex .ensures, c .before .before .before .add .ensures, c .before .before .before .before .complex-at .ensures, c .before .before .before .before .before .before .before .before .before .take-away .ensures, c .before .before .before .before .before .before .before .before .before .before .before .dot .ensures)
 
 pub project-on-spec : {M : Type 1} → statement M
 project-on-spec =

@@ -83,7 +83,7 @@ loop-again : tie.Need-loop-again Inv-loop μ-loop
 loop-again c = (omega arith, rw (each-more, c .before .before .before .add-term .ensures, c .before .before .before .before .before .loop .inv .1), rw (each-more, c .before .before .add-term2 .ensures, c .before .before .before .before .before .loop .inv .2), rw (each-more, c .before .add-term3 .ensures, c .before .before .before .before .before .loop .inv .3), rw (each-more, c .add-term4 .ensures, c .before .before .before .before .before .loop .inv .4))
 
 returns : tie.Need-returns Inv-loop μ-loop
-returns c = let e = le-antisymm (c .before .loop .inv .0) (c .loop-test .left) in (cc e, cc e, cc e, cc e)
+returns c = let e = le-antisymm (c .before .loop .inv .0) (c .loop-test .left) in let h = c .before .loop .inv in (rw e at (h .1), rw e at (h .2), rw e at (h .3), rw e at (h .4))
 
 pub sum-fours-spec : {M : Type 1} → statement M
 sum-fours-spec =

@@ -35,7 +35,7 @@ loop-again : tie.Need-loop-again Inv-loop μ-loop
 loop-again c = let h : c .before .before .before .before .args .from ≤ c .before .before .loop .k = omega arith in (omega arith, omega arith, rw (between-more, c .add-term .ensures, c .before .before .loop .inv .2))
 
 returns : tie.Need-returns Inv-loop μ-loop
-returns c = cc (le-antisymm (c .before .loop .inv .1) (c .loop-test .left))
+returns c = rw (le-antisymm (c .before .loop .inv .1) (c .loop-test .left)) at (c .before .loop .inv .2)
 
 pub sum-rest-spec : {M : Type 1} → statement M
 sum-rest-spec =

@@ -39,7 +39,7 @@ loop-again c = (omega arith, rw (each-more, ← c .before .before .before .loop 
 
 returns : tie.Need-returns Inv-loop μ-loop
 unfolding anyNan
-returns c = cc (le-antisymm (c .before .loop .inv .0) (c .loop-test .left))
+returns c = rw (le-antisymm (c .before .loop .inv .0) (c .loop-test .left)) at (c .before .loop .inv .1)
 
 pub any-nan-spec : {M : Type 1} → statement M
 any-nan-spec =

@@ -44,7 +44,7 @@ loop-again c = (omega arith, omega arith, rw (each-more, c .tally .ensures .0, c
 
 returns : tie.Need-returns Inv-loop μ-loop
 unfolding earlier
-returns c = (rw (← c .before .before .complex-at .ensures) (cc (le-antisymm (c .before .loop .inv .0) (c .loop-test .left))), omega arith)
+returns c = (rw (← c .before .before .complex-at .ensures) (rw (le-antisymm (c .before .loop .inv .0) (c .loop-test .left)) at (c .before .loop .inv .2)), omega arith)
 
 pub count-earlier-spec : {M : Type 1} → statement M
 count-earlier-spec =

@@ -47,7 +47,7 @@ loop-again c = let h : c .before .before .before .before .before .before .before
 
 returns : tie.Need-returns Inv-loop μ-loop
 unfolding later
-returns c = (rw (← c .before .before .complex-at .ensures) (cc (le-antisymm (c .before .loop .inv .1) (c .loop-test .left))), omega arith)
+returns c = (rw (← c .before .before .complex-at .ensures) (rw (le-antisymm (c .before .loop .inv .1) (c .loop-test .left)) at (c .before .loop .inv .3)), omega arith)
 
 pub count-later-spec : {M : Type 1} → statement M
 count-later-spec =

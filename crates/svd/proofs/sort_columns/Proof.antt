@@ -39,7 +39,7 @@ loop-again c = (omega arith, simp length-set (omega arith), rw (each-more, c .pl
 
 returns : tie.Need-returns Inv-loop μ-loop
 unfolding orderOf
-returns c = cc (le-antisymm (c .before .loop .inv .0) (c .loop-test .left))
+returns c = rw (le-antisymm (c .before .loop .inv .0) (c .loop-test .left)) at (c .before .loop .inv .2)
 
 pub sort-columns-spec : {M : Type 1} → statement M
 sort-columns-spec =

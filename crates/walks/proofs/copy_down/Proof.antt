@@ -1,9 +1,9 @@
 -- The invariant: the first k numbers are those from `from` on, and no number that is still to be read was written.
-use mathlib.Core.Path.{_≡_}
-use Prim.Native.Nat.{_≤_, _-_, _+_}
+use mathlib.Core.Path.{_≡_, ap, _∙_}
+use Prim.Native.Nat.{_≤_, _-_, _+_, _*_}
 use native.Mathlib.Nat.{le-antisymm}
 use native.Mathlib.Omega.{arith}
-use lib.ListN.{length}
+use lib.ListN.{length, take}
 use Rattle.complex.specs.Loops.{each-none, each-more}
 use Rattle.complex.specs.Numbers.{at, stores, at-stores-other, take-stores}
 use Rattle.walks.proofs.copy_down.Statement.{statement}
@@ -40,7 +40,7 @@ same-length : tie.Need-same-length Inv-loop μ-loop
 same-length c = omega arith
 
 returns : tie.Need-returns Inv-loop μ-loop
-returns c = cc (le-antisymm (c .before .loop .inv .0) (c .loop-test .left), take-stores (c .before .before .before .args .n) (λ k. at (c .before .before .before .args .work .now) (c .before .before .before .args .from + k)) (c .before .before .before .args .work .now) (omega arith))
+returns c = let a = c .before .before .before .args in ap (take (2 * a .n)) (rw (le-antisymm (c .before .loop .inv .0) (c .loop-test .left)) at (c .before .loop .inv .2)) ∙ take-stores (a .n) (λ k. at (a .work .now) (a .from + k)) (a .work .now) (omega arith)
 
 pub copy-down-spec : {M : Type 1} → statement M
 copy-down-spec =

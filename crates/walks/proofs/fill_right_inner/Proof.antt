@@ -1,13 +1,14 @@
 -- The invariant: the area has its first k numbers, and what lies before it is as it was.
-use mathlib.Core.Path.{_≡_, refl, sym, _∙_}
+use mathlib.Core.Path.{_≡_, refl, sym}
 use Prim.Native.Nat.{_≤_, _<_, _-_, _+_, _*_, _/_, _%_}
 use native.Mathlib.Nat.{mul-le-mul-right, le-antisymm, div-lt-iff-lt-mul, mod-lt}
 use native.Mathlib.Omega.{arith}
 use lib.ListN.{length, take}
 use lib.Seq.{length-take-le}
-use Rattle.complex.specs.Loops.{each-none, each-more}
-use Rattle.complex.specs.Numbers.{stores, take-store}
+use Rattle.complex.specs.Loops.{each-none}
+use Rattle.complex.specs.Numbers.{stores}
 use Rattle.walks.specs.Products.{innerRight}
+use Rattle.walks.specs.Steps.{area-more}
 use Rattle.walks.proofs.fill_right_inner.Statement.{statement}
 use Rattle.walks.proofs.fill_right_inner.Tie as tie
 
@@ -60,13 +61,19 @@ loop-less : tie.Need-loop-less Inv-loop μ-loop
 loop-less c = omega arith
 
 loop-again : tie.Need-loop-again Inv-loop μ-loop
-loop-again c = (omega arith, omega arith, rw (c .before .before .set-complex .ensures) (take-store (2 * (c .before .before .before .before .before .before .before .before .before .before .args .br * c .before .before .before .before .before .before .before .before .before .before .args .br)) ((c .before .before .before .before .before .before .before .before .before .before .args .br * c .before .before .before .before .before .before .before .before .before .before .args .br) + c .before .before .before .before .before .before .before .loop .k) _ (c .before .before .before .before .before .before .before .loop .work) (omega arith) ∙ c .before .before .before .before .before .before .before .loop .inv .2), rw (each-more, c .before .before .set-complex .ensures, c .before .before .before .before .right-inner .ensures, c .before .before .before .before .before .before .before .loop .inv .2, c .before .before .before .before .before .before .before .loop .inv .3))
+loop-again c =
+    let a = c .before .before .before .before .before .before .before .before .before .before .args in
+    let l = c .before .before .before .before .before .before .before .loop in
+    let z = c .before .before .before .before .right-inner in
+    let w = c .before .before .set-complex in
+    let t = area-more (a .br * a .br) (l .k) (λ front k. innerRight (a .br) (a .site .now) front (k / a .br) (k % a .br)) (a .work .now) (l .work) (w .last .0) (z .result) (l .inv .2) (l .inv .3) (z .ensures) (w .ensures) in
+    (omega arith, omega arith, t .0, t .1)
 
 same-length : tie.Need-same-length Inv-loop μ-loop
 same-length c = omega arith
 
 returns : tie.Need-returns Inv-loop μ-loop
-returns c = cc (le-antisymm (c .before .loop .inv .0) (c .loop-test .left))
+returns c = rw (le-antisymm (c .before .loop .inv .0) (c .loop-test .left)) at (c .before .loop .inv .3)
 
 pub fill-right-inner-spec : {M : Type 1} → statement M
 fill-right-inner-spec =

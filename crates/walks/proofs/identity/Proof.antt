@@ -1,5 +1,5 @@
 -- The invariant: the first k numbers of out are the identity's.
-use mathlib.Core.Path.{_≡_}
+use mathlib.Core.Path.{_≡_, _∙_}
 use mathlib.Core.Bool.{cond}
 use Prim.Native.Nat.{_≤_, _-_, _*_, _/_, _%_}
 use native.Mathlib.Nat.{mul-le-mul-right, le-antisymm}
@@ -51,7 +51,7 @@ same-length : tie.Need-same-length Inv-loop μ-loop
 same-length c = omega arith
 
 returns : tie.Need-returns Inv-loop μ-loop
-returns c = let d = c .before .before .before .args .dim in cc (le-antisymm (c .before .loop .inv .0) (c .loop-test .left), stores-numbers (d * d) (λ k. cond (eqb (k / d) (k % d)) (real oneF) zeroC) (c .before .before .before .args .out .now) (omega arith), numbers-flat d d (λ r q. cond (eqb r q) (real oneF) zeroC))
+returns c = let a = c .before .before .before .args in rw (le-antisymm (c .before .loop .inv .0) (c .loop-test .left)) at (c .before .loop .inv .2) ∙ stores-numbers (a .dim * a .dim) (λ k. cond (eqb (k / a .dim) (k % a .dim)) (real oneF) zeroC) (a .out .now) (omega arith) ∙ numbers-flat (a .dim) (a .dim) (λ r q. cond (eqb r q) (real oneF) zeroC)
 
 pub identity-spec : {M : Type 1} → statement M
 identity-spec =

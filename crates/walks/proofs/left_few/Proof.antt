@@ -45,7 +45,7 @@ loop-again c = (omega arith, rw (each-more, c .left-cell .ensures, c .before .co
 
 returns : tie.Need-returns Inv-loop μ-loop
 unfolding fewLeft
-returns c = cc (le-antisymm (c .before .loop .inv .0) (c .loop-test .left))
+returns c = rw (le-antisymm (c .before .loop .inv .0) (c .loop-test .left)) at (c .before .loop .inv .1)
 
 pub left-few-spec : {M : Type 1} → statement M
 left-few-spec =

@@ -61,7 +61,7 @@ loop-again c = (omega arith, rw (each-more, c .plus-unless-zero .ensures, c .bef
 
 returns : tie.Need-returns Inv-loop μ-loop
 unfolding manyLeft
-returns c = cc (le-antisymm (c .before .loop .inv .0) (c .loop-test .left))
+returns c = rw (le-antisymm (c .before .loop .inv .0) (c .loop-test .left)) at (c .before .loop .inv .1)
 
 pub left-many-spec : {M : Type 1} → statement M
 left-many-spec =

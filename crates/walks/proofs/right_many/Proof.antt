@@ -64,7 +64,7 @@ loop-again c = (omega arith, rw (each-more, c .add .ensures, c .before .mul .ens
 
 returns : tie.Need-returns Inv-loop μ-loop
 unfolding manyRight
-returns c = cc (le-antisymm (c .before .loop .inv .0) (c .loop-test .left))
+returns c = rw (le-antisymm (c .before .loop .inv .0) (c .loop-test .left)) at (c .before .loop .inv .1)
 
 pub right-many-spec : {M : Type 1} → statement M
 right-many-spec =
