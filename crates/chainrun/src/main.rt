@@ -1,92 +1,95 @@
-// Reads run records from standard input, does each on one chain, and prints a line for each. It stops at the end of the
-// input, and after the line `0 8`. What a record does, and its line, is `session::step`'s; here are the reads and writes.
+// Reads run records from standard input and prints a line for each. What is printed for an input is `stream`'s; here are
+// the reads and writes. It stops at the input's end, after the line `0 8`, and where a line cannot be written.
 use libc::STDIN_FILENO;
 use libc::STDOUT_FILENO;
-use lines::Line;
-use lines::write_line;
-use record::more_bytes;
-use session::Session;
-use session::new_session;
-use session::step;
-ghost use Prim.Native.Nat.{_+_, _≤_};
+use stream::Run;
+use stream::end;
+use stream::feed;
+use stream::new_run;
+use stream::new_store;
+use stream::new_work;
+ghost use Prim.Native.Nat.{_≤_};
 ghost use lib.ListN.{length};
 
-// The session after a record, and whether another is to be read.
+// The run after a piece of the input, and whether another is to be read.
 struct Turned {
-    session: Session,
+    run: Run,
     goes_on: bool,
 }
 
-// Fills the part of the slice from `from` to `end` as far as the input goes, and answers how many bytes came.
-fn read_part(bytes: &mut [u8], from: usize, end: usize) -> usize
-    requires { ⌜ from ≤ end ⌝ }
-    requires { ⌜ end ≤ length (now bytes) ⌝ }
-    ensures { λ r. ⌜ from + r ≤ end ⌝ }
+// Reads what is there, as far as the slice goes, and answers how many bytes came; 0 at the input's end.
+fn read_piece(piece: &mut [u8]) -> usize
+    ensures { λ r. ⌜ r ≤ length (now (piece .exit)) ⌝ }
 {
-    io::read_full(STDIN_FILENO, &mut bytes[from..end])
+    let got = libc::read(STDIN_FILENO, piece);
+    io::count(got, piece)
 }
 
-// The next record, read to the slice's start, and how many bytes there were of it. Nothing is read past the two of its
-// length if no record has that length.
-fn read_bytes(bytes: &mut [u8]) -> usize
-    requires { ⌜ 262 ≤ length (now bytes) ⌝ }
-    ensures { λ r. ⌜ r ≤ length (now (bytes .exit)) ⌝ }
+// Whether all of the first n bytes were written.
+fn print_front(text: &[u8], n: usize) -> bool
+    requires { ⌜ n ≤ length (now text) ⌝ }
 {
-    let first = read_part(bytes, 0, 2);
-    if first < 2 {
-        return first;
-    }
-    let more = more_bytes(bytes[0], bytes[1]);
-    if more == 0 {
-        return 2;
-    }
-    2 + read_part(bytes, 2, 2 + more)
-}
-
-// Whether the whole line was written.
-fn print_line(line: Line) -> bool {
-    let mut text = [0u8; 25];
-    let n = write_line(&mut text, line);
     io::write_all(STDOUT_FILENO, &text[..n])
 }
 
-// One record: read, done, and its line printed. A line of kind 0 is the last.
-fn turn(session: Session, store: &mut [f64], work: &mut [f64]) -> Turned {
-    let mut bytes = [0u8; 262];
-    let got = read_bytes(&mut bytes);
+// The input has ended.
+fn print_end(run: Run, text: &mut [u8]) -> bool {
+    let n = end(run, text);
+    print_front(text, n)
+}
+
+// One piece: read, fed, and its lines printed. `bytes` holds the record in progress.
+fn turn(
+    run: Run,
+    store: &mut [f64],
+    work: &mut [f64],
+    bytes: &mut [u8],
+    piece: &mut [u8],
+    text: &mut [u8],
+) -> Turned {
+    let got = read_piece(piece);
     if got == 0 {
+        print_end(run, text);
         return Turned {
-            session: session,
+            run: run,
             goes_on: false,
         };
     }
-    let out = step(session, store, work, &bytes[..got]);
-    let line = out.line;
-    let after = out.session;
-    let is_printed = print_line(line);
+    let fed = feed(run, store, work, bytes, &piece[..got], text);
+    let after = fed.run;
+    let is_printed = print_front(text, fed.written);
     Turned {
-        session: after,
-        goes_on: is_printed & (line.kind != 0),
+        run: after,
+        goes_on: is_printed & !after.stopped,
     }
 }
 
 // A proved loop has to end, and nothing says that the input does. So the turns are counted down, from a number that no
 // run uses up.
-fn run(first: Session, store: &mut [f64], work: &mut [f64]) {
-    let mut session = first;
+fn run_all(
+    store: &mut [f64],
+    work: &mut [f64],
+    bytes: &mut [u8],
+    piece: &mut [u8],
+    text: &mut [u8],
+) {
+    let mut run = new_run();
     let mut goes_on = true;
     let mut turns = u64::MAX;
     while turns > 0 && goes_on {
-        let next = turn(session, store, work);
-        session = next.session;
+        let next = turn(run, store, work, bytes, piece, text);
+        run = next.run;
         goes_on = next.goes_on;
         turns -= 1;
     }
 }
 
+// The text has room for a line for each byte of a piece, so that every byte is taken (`Promised.taken` of stream).
 fn main() {
-    let mut store = [0.0; 512];
-    let mut work = [0.0; 1344];
-    let session = new_session();
-    run(session, &mut store, &mut work);
+    let mut store = new_store();
+    let mut work = new_work();
+    let mut bytes = [0u8; 262];
+    let mut piece = [0u8; 1024];
+    let mut text = [0u8; 25600];
+    run_all(&mut store, &mut work, &mut bytes, &mut piece, &mut text);
 }

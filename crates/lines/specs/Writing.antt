@@ -126,7 +126,7 @@ length-detail (Bit b) = omega arith
 chain : (l a b vs ws : List ℕ) (i r s : ℕ) → Wrote l i vs a r → Wrote a r ws b s → Wrote l i (vs ++ ws) b s
 chain l a b vs ws i r s g h = (h .0 ∙ rw (g .0, g .1) (sets-append vs ws l i), rw length-append (omega (arith, g .1, h .1)))
 
-length-line : (line : Line) → length (lineText line) ≤ lineRoom
+pub length-line : (line : Line) → length (lineText line) ≤ lineRoom
 unfolding lineText
 length-line line = simp length-append (omega (arith, length-decimal (line .kind), length-decimal (line .number), length-detail (line .detail)))
 

@@ -2,5 +2,6 @@
 pub mod Layout
 pub mod Fields
 pub mod Reading
+pub mod Frames
 pub mod GateBytes
 pub mod Worked

@@ -82,6 +82,30 @@ module _ (bytes : List ℕ) where
       by true e = wrong-length (none (subst T (sym e) tt))
       by false e = bad-fields e
 
+-- what is read is of one of the six kinds
+and-right : (a b : Bool) → (a && b) ≡ true → b ≡ true
+and-right true b e = e
+and-right false b e = absurd (subst T (sym e) tt)
+
+accepted-valid : (bytes : List ℕ) → accepted bytes ≡ true → T (valid (fieldsOf (kindOf bytes) bytes))
+unfolding accepted
+accepted-valid bytes e =
+    let v = valid (fieldsOf (kindOf bytes) bytes) in
+    let fits = leb (2 + lengthOf bytes) (length bytes) && v in
+    let named = eqb (lengthOf bytes) (2 + bodySize (kindOf bytes)) && fits in
+    subst T (sym (and-right (leb (2 + lengthOf bytes) (length bytes)) v (and-right (eqb (lengthOf bytes) (2 + bodySize (kindOf bytes))) fits (and-right (leb 4 (length bytes)) named e)))) tt
+
+pub read-kind : (bytes : List ℕ) → eqb (readOf bytes .refused) 0 ≡ true → (1 ≤ readOf bytes .fields .kind) × (readOf bytes .fields .kind ≤ 6)
+unfolding readOf
+read-kind bytes e = by (accepted bytes) refl e
+  where
+    read : Bool → Read
+    read t = cond t (record { refused = 0; fields = fieldsOf (kindOf bytes) bytes }) turnedAway
+
+    by : (t : Bool) → accepted bytes ≡ t → eqb (read t .refused) 0 ≡ true → (1 ≤ read t .fields .kind) × (read t .fields .kind ≤ 6)
+    by true a e = valid-kind (fieldsOf (kindOf bytes) bytes) (accepted-valid bytes a)
+    by false a e = absurd (subst T (sym e) tt)
+
 -- ---- what stands behind the record has no part in what is read
 
 module _ (bytes : List ℕ) (more : 2 + lengthOf bytes ≤ length bytes) (room : 2 ≤ lengthOf bytes) where

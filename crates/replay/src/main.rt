@@ -317,12 +317,12 @@ fn replay_stream(bytes: &[u8]) {
 
 // ---- the list
 
-// The length of the next stream; more than a stream has at the list's end.
+// The length of the next stream; at the list's end what no length of 4 bytes can be.
 fn read_length() -> usize {
     let mut bytes = [0u8; 4];
     let n = io::read_full(STDIN_FILENO, &mut bytes);
     if n < 4 {
-        return 4097;
+        return usize::MAX;
     }
     u32_at(&bytes, 0) as usize
 }
@@ -342,10 +342,24 @@ fn replay_front(bytes: &[u8], n: usize) {
     }
 }
 
-// The next stream under its number, and whether there was one.
+fn write_refused(number: u64) {
+    write_text(b"stream ");
+    io::print_decimal(STDOUT_FILENO, number);
+    write_text(b" refused: longer than 4096 bytes\n");
+}
+
+// The next stream under its number, and whether there was one. One that is longer than the buffer is refused, and ends
+// the list.
 fn replay_next(number: u64) -> bool {
     let mut bytes = io::buffer();
     let size = read_length();
+    if size == usize::MAX {
+        return false;
+    }
+    if bytes.len() < size {
+        write_refused(number);
+        return false;
+    }
     if !read_front(&mut bytes, size) {
         return false;
     }

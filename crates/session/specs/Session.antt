@@ -113,9 +113,13 @@ kindStep kind s store work f bytes =
 unfoldable pub inTurn : Bool → ℕ → Bool
 inTurn started kind = cond (eqb kind 1) (not started) started
 
+-- a record that reads and may come now
+abbrev pub obeys : Session → Read → Bool
+obeys s r = eqb (r .refused) 0 && inTurn (s .started) (r .fields .kind)
+
 abbrev pub readStep : Session → List Float → List Float → List ℕ → Read → Left
 readStep s store work bytes r =
-    cond (eqb (r .refused) 0 && inTurn (s .started) (r .fields .kind)) (kindStep (r .fields .kind) s store work (r .fields) bytes) (turnedAway s store work)
+    cond (obeys s r) (kindStep (r .fields .kind) s store work (r .fields) bytes) (turnedAway s store work)
 
 unfoldable pub stepOf : Session → List Float → List Float → List ℕ → Left
 stepOf s store work bytes = readStep s store work bytes (readOf bytes)

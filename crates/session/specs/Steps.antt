@@ -20,7 +20,7 @@ use Rattle.record.specs.Layout.{NoKind}
 use Rattle.record.specs.Reading.{readOf}
 use Rattle.lines.specs.declared.Line.{Line}
 use Rattle.session.specs.declared.Session.{Session}
-use Rattle.session.specs.Session.{Left, left, session, newSession, lineOf, stopLine, turnedAway, isDone, afterStart, afterCall, nameOf, kindStep, inTurn, readStep, stepOf}
+use Rattle.session.specs.Session.{Left, left, session, newSession, lineOf, stopLine, turnedAway, isDone, afterStart, afterCall, nameOf, kindStep, inTurn, obeys, readStep, stepOf}
 
 -- ---- a call's answer as a line
 
@@ -52,7 +52,7 @@ module _ (s : Session) (store work : List Float) (t : Session) (line : Line) (e 
       rw (ne-eqb k 1 (h .0 .0 .0 .0 .0 .1), ne-eqb k 2 (h .0 .0 .0 .0 .1), ne-eqb k 3 (h .0 .0 .0 .1), ne-eqb k 4 (h .0 .0 .1), ne-eqb k 5 (h .0 .1), ne-eqb k 6 (h .1)) stopped
 
   module _ (bytes : List ℕ) (r : Read) (from : r ≡ readOf bytes) where
-    turned : (eqb (r .refused) 0 && inTurn (s .started) (r .fields .kind)) ≡ false → left t line store work ≡ stepOf s store work bytes
+    turned : obeys s r ≡ false → left t line store work ≡ stepOf s store work bytes
     unfolding stepOf
     turned h = stopped ∙ sym (ap (λ (b : Bool). cond b (kindStep (r .fields .kind) s store work (r .fields) bytes) (turnedAway s store work)) h) ∙ ap (readStep s store work bytes) from
 
