@@ -4,6 +4,7 @@ names; the lines it has to print are the oracle's (crates/replay/stdout). Then o
 shows. Prints nothing unless something differs."""
 import pathlib
 import re
+import select
 import struct
 import subprocess
 import sys
@@ -31,15 +32,28 @@ def lines(data):
 
 
 def in_pieces(data):
-    with subprocess.Popen([CHAINRUN], stdin=subprocess.PIPE, stdout=subprocess.PIPE) as p:
+    with subprocess.Popen([CHAINRUN], stdin=subprocess.PIPE, stdout=subprocess.PIPE, bufsize=0) as p:
         try:
             for k in range(len(data)):
                 p.stdin.write(data[k : k + 1])
-                p.stdin.flush()
             p.stdin.close()
         except BrokenPipeError:
             pass
         return p.stdout.read().decode().splitlines()
+
+
+def one_at_a_time(records):
+    """Each record is written once the line of the one before it was read."""
+    with subprocess.Popen([CHAINRUN], stdin=subprocess.PIPE, stdout=subprocess.PIPE, bufsize=0) as p:
+        out = []
+        for record in records:
+            p.stdin.write(record)
+            ready, _, _ = select.select([p.stdout], [], [], 10)
+            if not ready:
+                p.kill()
+                return [*out, "no line"]
+            out.append(p.stdout.readline().decode().rstrip())
+        return out
 
 
 def longer(record):
@@ -93,6 +107,10 @@ for name, data, want in document_cases():
     got = in_pieces(data)
     if got != want:
         faults.append(f"{name}, byte by byte: {got}, and not {want}")
+got = one_at_a_time([START, *RECORDS])
+want = lines(START + b"".join(RECORDS))
+if got != want:
+    faults.append(f"record by record: {got}, and not {want}")
 for f in faults[:20]:
     print(f)
 sys.exit(1 if faults else 0)

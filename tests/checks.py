@@ -2,7 +2,10 @@
 """The repository's own checks, on its text. Run from any folder; prints a line for each check and exits with 1 at a fault."""
 import pathlib
 import re
+import subprocess
 import sys
+
+import edits
 
 TOP = pathlib.Path(__file__).resolve().parent.parent
 CRATES = TOP / "crates"
@@ -59,11 +62,44 @@ def public_functions_require_nothing():
 
 
 def edits_say_what_they_break():
-    out = []
-    for path in sorted(CRATES.glob("*/must-fail/*.edit")):
-        if not path.read_text().startswith("# "):
-            out.append(f"{path.relative_to(TOP)} does not begin with the fact that it breaks")
+    """Each names a public function, one of a program, or a name of specs/, and docs/EDITS.md is made of them."""
+    names, functions, out = edits.defined(), {*edits.public_functions(), *edits.program_functions()}, []
+    for crate, name, promise, _ in edits.edits():
+        if promise is None:
+            out.append(f"{crate}/{name} does not begin with '# Breaks NAME: what holds'")
+        elif promise not in functions and promise not in names:
+            out.append(f"{crate}/{name} names {promise}, which there is not")
+    return out or ([] if edits.PAGE.read_text() == edits.page() else ["docs/EDITS.md is not what tests/edits.py writes"])
+
+
+def public_contracts_have_two_edits():
+    """Of programs and of access by index nothing is asked."""
+    broken = [promise for _, _, promise, _ in edits.edits()]
+    return [
+        f"{f} has fewer than two must-fail edits"
+        for f in edits.public_functions()
+        if f.split("::")[0] not in INTERNAL and f.split("::")[1] not in MAY_REQUIRE and broken.count(f) < 2
+    ]
+
+
+def promises():
+    """The fields of each crate's record Promised, where it has one and one inhabitant of it."""
+    out = {}
+    for path in sorted(CRATES.glob("*/specs/**/*.antt")):
+        for m in re.finditer(r"^pub record Promised : Type 0 where\n((?:  .*\n|\n)*)", path.read_text(), re.M):
+            out[path.relative_to(CRATES).parts[0]] = re.findall(r"^  pub (\S+) :", m.group(1), re.M)
     return out
+
+
+def promises_are_proved_and_named():
+    """Each record Promised has an inhabitant, and docs/PROMISES.md names its fields and no others."""
+    named = set(re.findall(r"`(\w+)\.([\w-]+)`", (TOP / "docs/PROMISES.md").read_text()))
+    records, out = promises(), []
+    for crate, fields in records.items():
+        if not any(re.search(r"^pub promised : Promised$", p.read_text(), re.M) for p in CRATES.glob(f"{crate}/specs/**/*.antt")):
+            out.append(f"{crate} has no promised : Promised")
+        out += [f"docs/PROMISES.md does not name {crate}.{f}" for f in fields if (crate, f) not in named]
+    return out + [f"docs/PROMISES.md names {c}.{f}, which is no field of a Promised" for c, f in sorted(named) if f not in records.get(c, [])]
 
 
 def readme_maps_every_crate(crates):
@@ -138,6 +174,32 @@ def refusals_page_shows_what_runs():
     return [] if printed in (TOP / "docs/REFUSALS.md").read_text() else ["docs/REFUSALS.md does not show crates/refusal_table/stdout"]
 
 
+def calls_page_shows_what_runs():
+    """The worked call is the program, from its first function on."""
+    source = (CRATES / "worked_call/src/main.rt").read_text()
+    shown = "".join(f"    {line}".rstrip() + "\n" for line in source[source.index("\n// A Hadamard") + 1 :].splitlines())
+    printed = (CRATES / "worked_call/stdout").read_text().strip()
+    page = (TOP / "docs/CALLS.md").read_text()
+    return [f"docs/CALLS.md does not show {what}" for what, text in (("crates/worked_call", shown), (printed, printed)) if text not in page]
+
+
+def calls_page_has_the_signatures():
+    """Each call of `chain`, on one line."""
+    page = (TOP / "docs/CALLS.md").read_text()
+    source = re.sub(r",?\s*\n\s*\)", ")", (CRATES / "chain/src/lib.rt").read_text())
+    heads = [re.sub(r"\(\s+", "(", re.sub(r"\s+", " ", m)) for m in re.findall(r"^pub fn (\w+\([^)]*\) -> \w+)", source, re.M)]
+    return [f"docs/CALLS.md does not have {h}" for h in heads if h not in page]
+
+
+def sample_is_what_its_script_writes():
+    """And docs/RUN-RECORD.md shows the script, from its imports on."""
+    wrote = subprocess.run([sys.executable, TOP / "samples/ghz.py"], stdout=subprocess.PIPE, check=True).stdout
+    source = (TOP / "samples/ghz.py").read_text()
+    shown = "".join(f"    {line}".rstrip() + "\n" for line in source[source.index("import ") :].splitlines())
+    out = [] if wrote == (TOP / "samples/ghz.run").read_bytes() else ["samples/ghz.py does not write samples/ghz.run"]
+    return out + ([] if shown in (TOP / "docs/RUN-RECORD.md").read_text() else ["docs/RUN-RECORD.md does not show samples/ghz.py"])
+
+
 def nothing_is_left_open():
     out = []
     for path in sorted(CRATES.glob("**/*.antt")):
@@ -152,11 +214,16 @@ check("every crate folder is listed", folders_are_listed(crates))
 check("internal crates are named from inside alone", internal_crates_stay_inside(crates))
 check("public functions require nothing", public_functions_require_nothing())
 check("must-fail edits say what they break", edits_say_what_they_break())
+check("public contracts have two must-fail edits", public_contracts_have_two_edits())
+check("promises are proved and named", promises_are_proved_and_named())
 check("README maps every crate", readme_maps_every_crate(crates))
 check("chain offers the calls alone", chain_offers_the_calls_alone())
 check("the required forms are there", required_forms_are_there())
 check("kernels take slices and numbers", no_kernel_takes_the_record())
 check("docs/REFUSALS.md shows what its program prints", refusals_page_shows_what_runs())
+check("docs/CALLS.md shows what its program does", calls_page_shows_what_runs())
+check("docs/CALLS.md has the signatures", calls_page_has_the_signatures())
+check("samples/ghz.run is what samples/ghz.py writes", sample_is_what_its_script_writes())
 check("no proof has a hole", nothing_is_left_open())
 for f in faults:
     print(f)

@@ -1,28 +1,59 @@
 #!/usr/bin/env bash
-# All tests of the repository: layout, its own checks, what is executed, and last the proofs with the must-fail edits.
-# The last line of a run that counts is rt's own 'N passed, 0 failed'.
+# The tests, in stages:
+#   tests/run.sh quick         layout and the repository's own checks: seconds
+#   tests/run.sh crate NAME    quick, then one crate with what it stands on, and its must-fail edits
+#   tests/run.sh [all]         everything: what is executed, every proof from nothing, every must-fail edit
+# The last line of a whole run that counts is rt's own 'N passed, 0 failed'.
 set -euo pipefail
 cd "$(dirname "$0")/.."
 
 step() { printf '== %s\n' "$*"; }
 
-step 'layout (rt fmt --check)'
-rt fmt --check
-
-step 'the repository'
-python3 tests/checks.py
-
-step 'the root against the machine'
-tests/root_compare.sh 2000000
-
-step 'every crate from nothing, every must-fail edit, every program (rt ci)'
-rt ci
+quick() {
+    step 'layout (rt fmt --check)'
+    rt fmt --check
+    step 'the repository'
+    python3 tests/checks.py
+}
 
 # An edit that only makes a proof file unfit for the code shows nothing.
-if grep -lE 'has no (`Need-|field `before`)' target/must-fail/*/*/.log; then
-    echo 'the edits above are refused for their shape, and not because a fact fails'
-    exit 1
-fi
+refused_for_a_fact() { # FOLDER OF LOGS
+    if grep -rlE --include=.log 'has no (`Need-|field `before`)' "$1"; then
+        echo 'the edits above are refused for their shape, and not because a fact fails'
+        exit 1
+    fi
+}
 
-# What was built, on the stored streams and on document 01's cases. Silent unless something differs.
-python3 tests/chainrun.py
+# rt tries the edits of every crate below the one named, so the others' edits are left out of a copy.
+one_crate() { # NAME
+    step "$1 and what it stands on (rt check)"
+    rt check "$1"
+    step "the must-fail edits of $1"
+    copy=$(mktemp -d)
+    trap 'rm -rf "$copy"' EXIT
+    cp -R crates crates.txt "$copy"
+    find "$copy/crates" -name must-fail -not -path "*/$1/must-fail" -prune -exec rm -rf {} +
+    ln -s "$PWD/target" "$copy/target"
+    (cd "$copy" && rt must-fail "$1")
+    [ ! -d "target/must-fail/$1" ] || refused_for_a_fact "target/must-fail/$1"
+}
+
+everything() {
+    step 'the root against the machine'
+    tests/root_compare.sh 2000000
+    step 'every crate from nothing, every must-fail edit, every program (rt ci)'
+    rt ci
+    refused_for_a_fact target/must-fail
+    # What was built, on the stored streams and on document 01's cases. Silent unless something differs.
+    python3 tests/chainrun.py
+}
+
+case ${1:-all} in
+quick) quick ;;
+crate) quick && one_crate "${2:?the name of a crate}" ;;
+all) quick && everything ;;
+*)
+    sed -n '2,6s/^# //p' "$0"
+    exit 2
+    ;;
+esac

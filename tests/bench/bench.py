@@ -7,9 +7,11 @@
 RUST is the folder of the Rust text, OUT a folder to build in (tests/oracle/build_oracle.py says what that needs). The
 port is linked as a static library that `rt staticlib` writes once it is proved. Two builds of the Rust stand beside it:
 as it is, and with each square root taken by the port's root. Prints microseconds a gate and the ratios, the best of
-ROUNDS (5); ONLY names the circuits to run.
+ROUNDS (5); ONLY names the circuits to run. A run of all circuits also draws OUT/speed.svg, which docs/SPEED.md shows.
 """
 import os, re, shutil, subprocess, sys
+
+import plot
 
 HERE = os.path.dirname(os.path.abspath(__file__))
 TOP = os.path.dirname(os.path.dirname(HERE))
@@ -76,8 +78,16 @@ flags = f"-L {libs} -l static=bench_export -l static=root_export"
 run("cargo", "build", "--release", "--offline", "--quiet", "--bin", "port_bench", cwd=bench, env={**os.environ, "RUSTFLAGS": flags + " -Awarnings"})
 program = os.path.join(bench, "target", "release", "port_bench")
 if sys.argv[3:] != ["count"]:
-    run(program, *sys.argv[3:])
-    raise SystemExit
+    rows = []
+    with subprocess.Popen([program, *sys.argv[3:]], stdout=subprocess.PIPE, text=True) as timing:
+        for line in timing.stdout:
+            print(line, end="", flush=True)
+            m = re.match(r" *(\S.* D \d+) +\d+ +(\S+) +(\S+) +\S+ +(\S+)", line)
+            if m:
+                rows.append((m[1], float(m[2]), float(m[3]), float(m[4])))
+    if timing.returncode == 0 and len(sys.argv) < 5:
+        open(os.path.join(OUT, "speed.svg"), "w").write(plot.picture(rows))
+    raise SystemExit(timing.returncode)
 
 
 def instructions(circuit, function):
