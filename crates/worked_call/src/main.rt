@@ -36,6 +36,13 @@ fn bell_pair(store: &mut [f64], work: &mut [f64]) -> Chain {
     bell.chain
 }
 
+// The first n bytes, on standard output.
+fn print(text: &[u8], n: usize) {
+    if n <= text.len() {
+        io::write_all(1, &text[..n]);
+    }
+}
+
 // What the projection answered, as a line.
 fn show(answer: Projected) {
     let line = match answer {
@@ -57,9 +64,7 @@ fn show(answer: Projected) {
     };
     let mut text = [0u8; 25];
     let n = write_line(&mut text, line);
-    if n <= text.len() {
-        io::write_all(1, &text[..n]);
-    }
+    print(&text, n);
 }
 
 fn main() {
