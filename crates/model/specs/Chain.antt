@@ -1,4 +1,4 @@
--- The chain record read, and changed one group of fields at a time. The fields are those of the Rust's MpsBackend.
+-- The chain record read, built, and changed one group of fields at a time. The fields are those of the Rust's MpsBackend.
 use Prim.Native.Nat.{ℕ, _+_}
 use mathlib.Core.Bool.{Bool}
 use mathlib.Core.List.{List}
@@ -23,92 +23,81 @@ siteOf c q = getD (c .«logical_to_site») q 0
 abbrev pub qubitAt : Chain → ℕ → ℕ
 qubitAt c k = getD (c .«site_to_logical») k 0
 
+-- ---- the fields, in groups that change together
+
+-- what a start sets, and no later call changes
+pub record ChainSettings : Type 0 where
+  pub qubits : ℕ
+  pub cap : ℕ
+  pub exponent : ℕ
+  pub epsilon : Float
+  pub clamp : Float
+
+abbrev pub settingsOf : Chain → ChainSettings
+settingsOf c = record { qubits = c .«num_qubits»; cap = c .«max_bond_dim»; exponent = c .«workspace_exponent»; epsilon = c .«svd_epsilon»; clamp = c .«norm_clamp_min» }
+
+-- the bonds left and right of each site
+pub record ChainBonds : Type 0 where
+  pub left : List ℕ
+  pub right : List ℕ
+
+abbrev pub bondsOf : Chain → ChainBonds
+bondsOf c = record { left = c .«bond_left»; right = c .«bond_right» }
+
+-- the two maps: the site of each qubit, and the qubit at each site
+pub record Labels : Type 0 where
+  pub sites : List ℕ
+  pub qubits : List ℕ
+
+abbrev pub labelsOf : Chain → Labels
+labelsOf c = record { sites = c .«logical_to_site»; qubits = c .«site_to_logical» }
+
+-- what the cuts left: the widest bond so far, and the weight that they discarded
+pub record CutTotals : Type 0 where
+  pub high-water : ℕ
+  pub discarded : Float
+
+abbrev pub cutTotalsOf : Chain → CutTotals
+cutTotalsOf c = record { high-water = c .«bond_high_water»; discarded = c .«truncation_discarded» }
+
+-- ---- built: the one place that names every field of the record
+
+abbrev pub built : ChainSettings → ChainBonds → Labels → List Bool → Center → CutTotals → Chain
+built settings bonds labels bits at totals = record {
+  «num_qubits» = settings .qubits;
+  «max_bond_dim» = settings .cap;
+  «workspace_exponent» = settings .exponent;
+  «svd_epsilon» = settings .epsilon;
+  «norm_clamp_min» = settings .clamp;
+  «bond_left» = bonds .left;
+  «bond_right» = bonds .right;
+  «logical_to_site» = labels .sites;
+  «site_to_logical» = labels .qubits;
+  «classical_bits» = bits;
+  center = at;
+  «bond_high_water» = totals .high-water;
+  «truncation_discarded» = totals .discarded;
+}
+
 -- ---- changed
 
 abbrev pub withCenter : Chain → Center → Chain
-withCenter c at = record {
-  «num_qubits» = c .«num_qubits»;
-  «max_bond_dim» = c .«max_bond_dim»;
-  «workspace_exponent» = c .«workspace_exponent»;
-  «svd_epsilon» = c .«svd_epsilon»;
-  «norm_clamp_min» = c .«norm_clamp_min»;
-  «bond_left» = c .«bond_left»;
-  «bond_right» = c .«bond_right»;
-  «logical_to_site» = c .«logical_to_site»;
-  «site_to_logical» = c .«site_to_logical»;
-  «classical_bits» = c .«classical_bits»;
-  center = at;
-  «bond_high_water» = c .«bond_high_water»;
-  «truncation_discarded» = c .«truncation_discarded»;
-}
+withCenter c at = built (settingsOf c) (bondsOf c) (labelsOf c) (c .«classical_bits») at (cutTotalsOf c)
 
 -- the bond between sites k and k + 1
 abbrev pub withBond : Chain → ℕ → ℕ → Chain
-withBond c k bond = record {
-  «num_qubits» = c .«num_qubits»;
-  «max_bond_dim» = c .«max_bond_dim»;
-  «workspace_exponent» = c .«workspace_exponent»;
-  «svd_epsilon» = c .«svd_epsilon»;
-  «norm_clamp_min» = c .«norm_clamp_min»;
-  «bond_left» = set (c .«bond_left») (k + 1) bond;
-  «bond_right» = set (c .«bond_right») k bond;
-  «logical_to_site» = c .«logical_to_site»;
-  «site_to_logical» = c .«site_to_logical»;
-  «classical_bits» = c .«classical_bits»;
-  center = c .center;
-  «bond_high_water» = c .«bond_high_water»;
-  «truncation_discarded» = c .«truncation_discarded»;
-}
+withBond c k bond =
+    let bonds : ChainBonds = record { left = set (c .«bond_left») (k + 1) bond; right = set (c .«bond_right») k bond } in
+    built (settingsOf c) bonds (labelsOf c) (c .«classical_bits») (c .center) (cutTotalsOf c)
 
 -- both label maps: sites by qubit, and qubits by site
 abbrev pub withLabels : Chain → List ℕ → List ℕ → Chain
-withLabels c sites qubits = record {
-  «num_qubits» = c .«num_qubits»;
-  «max_bond_dim» = c .«max_bond_dim»;
-  «workspace_exponent» = c .«workspace_exponent»;
-  «svd_epsilon» = c .«svd_epsilon»;
-  «norm_clamp_min» = c .«norm_clamp_min»;
-  «bond_left» = c .«bond_left»;
-  «bond_right» = c .«bond_right»;
-  «logical_to_site» = sites;
-  «site_to_logical» = qubits;
-  «classical_bits» = c .«classical_bits»;
-  center = c .center;
-  «bond_high_water» = c .«bond_high_water»;
-  «truncation_discarded» = c .«truncation_discarded»;
-}
+withLabels c sites qubits = built (settingsOf c) (bondsOf c) (record { sites = sites; qubits = qubits }) (c .«classical_bits») (c .center) (cutTotalsOf c)
 
 abbrev pub withBits : Chain → List Bool → Chain
-withBits c bits = record {
-  «num_qubits» = c .«num_qubits»;
-  «max_bond_dim» = c .«max_bond_dim»;
-  «workspace_exponent» = c .«workspace_exponent»;
-  «svd_epsilon» = c .«svd_epsilon»;
-  «norm_clamp_min» = c .«norm_clamp_min»;
-  «bond_left» = c .«bond_left»;
-  «bond_right» = c .«bond_right»;
-  «logical_to_site» = c .«logical_to_site»;
-  «site_to_logical» = c .«site_to_logical»;
-  «classical_bits» = bits;
-  center = c .center;
-  «bond_high_water» = c .«bond_high_water»;
-  «truncation_discarded» = c .«truncation_discarded»;
-}
+withBits c bits = built (settingsOf c) (bondsOf c) (labelsOf c) bits (c .center) (cutTotalsOf c)
 
 -- the widest bond so far, and the weight that the cuts have discarded
 abbrev pub withTruncation : Chain → ℕ → Float → Chain
-withTruncation c high discarded = record {
-  «num_qubits» = c .«num_qubits»;
-  «max_bond_dim» = c .«max_bond_dim»;
-  «workspace_exponent» = c .«workspace_exponent»;
-  «svd_epsilon» = c .«svd_epsilon»;
-  «norm_clamp_min» = c .«norm_clamp_min»;
-  «bond_left» = c .«bond_left»;
-  «bond_right» = c .«bond_right»;
-  «logical_to_site» = c .«logical_to_site»;
-  «site_to_logical» = c .«site_to_logical»;
-  «classical_bits» = c .«classical_bits»;
-  center = c .center;
-  «bond_high_water» = high;
-  «truncation_discarded» = discarded;
-}
+withTruncation c high discarded =
+    built (settingsOf c) (bondsOf c) (labelsOf c) (c .«classical_bits») (c .center) (record { high-water = high; discarded = discarded })

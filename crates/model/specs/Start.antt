@@ -10,45 +10,24 @@ use Rattle.complex.specs.Loops.{tabulate}
 use Rattle.complex.specs.Matrix.{rows}
 use Rattle.model.specs.declared.Center.the-variants.{Unknown}
 use Rattle.model.specs.declared.Chain.{Chain}
+use Rattle.model.specs.Chain.{ChainSettings, built}
 use Rattle.model.specs.Slots.{slotRoom, storeRoom, filled}
 
 -- 64 entries: f 0, f 1, .. f (n - 1), then 0
 abbrev pub upTo : ℕ → (ℕ → ℕ) → List ℕ
 upTo n f = tabulate 64 (λ i. cond (ltb i n) (f i) 0)
 
+-- a record with no flag set, no centre and nothing discarded; the bonds left and right of the sites are one list, and so are the two label maps
+abbrev pub startChain : ChainSettings → List ℕ → List ℕ → ℕ → Chain
+startChain settings bonds labels high =
+    built settings (record { left = bonds; right = bonds }) (record { sites = labels; qubits = labels }) (replicate 64 false) Unknown (record { high-water = high; discarded = zeroF })
+
 unfoldable pub freshChain : ℕ → ℕ → Float → Float → ℕ → Chain
-freshChain n d epsilon clamp exponent = record {
-  «num_qubits» = n;
-  «max_bond_dim» = d;
-  «workspace_exponent» = exponent;
-  «svd_epsilon» = epsilon;
-  «norm_clamp_min» = clamp;
-  «bond_left» = upTo n (λ i. 1);
-  «bond_right» = upTo n (λ i. 1);
-  «logical_to_site» = upTo n (λ i. i);
-  «site_to_logical» = upTo n (λ i. i);
-  «classical_bits» = replicate 64 false;
-  center = Unknown;
-  «bond_high_water» = 1;
-  «truncation_discarded» = zeroF;
-}
+freshChain n d epsilon clamp exponent =
+    startChain (record { qubits = n; cap = d; exponent = exponent; epsilon = epsilon; clamp = clamp }) (upTo n (λ i. 1)) (upTo n (λ i. i)) 1
 
 unfoldable pub zeroChain : Chain
-zeroChain = record {
-  «num_qubits» = 0;
-  «max_bond_dim» = 0;
-  «workspace_exponent» = 0;
-  «svd_epsilon» = zeroF;
-  «norm_clamp_min» = zeroF;
-  «bond_left» = replicate 64 0;
-  «bond_right» = replicate 64 0;
-  «logical_to_site» = replicate 64 0;
-  «site_to_logical» = replicate 64 0;
-  «classical_bits» = replicate 64 false;
-  center = Unknown;
-  «bond_high_water» = 0;
-  «truncation_discarded» = zeroF;
-}
+zeroChain = startChain (record { qubits = 0; cap = 0; exponent = 0; epsilon = zeroF; clamp = zeroF }) (replicate 64 0) (replicate 64 0) 0
 
 -- each of the n slots holds the amplitudes 1 and 0, then +0; what lies past them is as it was
 unfoldable pub freshStore : ℕ → ℕ → List Float → List Float

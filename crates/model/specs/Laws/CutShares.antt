@@ -15,7 +15,7 @@ use Rattle.model.specs.declared.Applied.{Applied}
 use Rattle.model.specs.declared.Measured.{Measured}
 use Rattle.model.specs.declared.Projected.{Projected}
 use Rattle.model.specs.declared.Chain.{Chain}
-use Rattle.model.specs.Chain.{siteOf}
+use Rattle.model.specs.Chain.{siteOf, labelsOf}
 use Rattle.model.specs.Slots.{State}
 use Rattle.model.specs.Svd.{values}
 use Rattle.model.specs.Truncation.{rank, share, recorded}
@@ -28,7 +28,7 @@ use Rattle.model.specs.Calls.{After, gateRefusal, gateCall, namedGateCal
 use Rattle.model.specs.Lists.{gate, named, project, measure, reset, left, stateOf}
 use Rattle.model.specs.Statements.Table.{gateSteps}
 use Rattle.model.specs.Statements.Demand1.{Early, Late}
-use Rattle.model.specs.Statements.Demand1Cuts.{cutSvd, cutShare, sharesOf, unlessEarly, callShares, listShares, discarded, WeightOfCall, WeightOfList, labelsOf}
+use Rattle.model.specs.Statements.Demand1Cuts.{cutSvd, cutShare, sharesOf, unlessEarly, callShares, listShares, discarded, WeightOfCall, WeightOfList}
 use Rattle.model.specs.Statements.Soundness.{Sound}
 use Rattle.model.specs.Laws.Refusals.{AcceptedReading, project-passes, measure-passes, reset-passes, above-zero, applied-number, gate-least}
 use Rattle.model.specs.Laws.AfterStates.{gateRun-late}

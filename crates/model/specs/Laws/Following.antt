@@ -14,13 +14,14 @@ use Rattle.complex.specs.declared.Complex.{Complex}
 use Rattle.gates.specs.Gate.{swapGateQubits}
 use Rattle.gates.specs.Named.{matrixOf}
 use Rattle.gates.specs.declared.NamedGate.the-variants.{Swap}
+use Rattle.model.specs.Chain.{Labels}
 use Rattle.model.specs.Slots.{State, held}
 use Rattle.model.specs.Cut.{Ran, ran, adjacent}
 use Rattle.model.specs.Routing.{relabelled, downTo, routeOf, Step, swapStep, gateStep, stepsOf, follow, stepped, runSteps, gateRun}
 use Rattle.model.specs.Phases.{Phase, _⊗_, one}
 use Rattle.model.specs.Machine as machine
 use Rattle.model.specs.Machine.{Machine}
-use Rattle.model.specs.Statements.Demand1Cuts.{Labels, exchanged}
+use Rattle.model.specs.Statements.Demand1Cuts.{exchanged}
 use Rattle.model.specs.Laws.Labels.{turn, turn-first, turn-second, turn-else, three, turn-turn, Maps, exchanged-site, exchanged-maps}
 use Rattle.model.specs.Laws.Units.{Moves, assoc, comm, one-right}
 use Rattle.model.specs.Laws.Tracked.{Setup, Fit, Tracked, update, update-at, update-else, update2, update2-first, update2-second, update2-else, adjacent-tracked}

@@ -15,6 +15,7 @@ use Rattle.gates.specs.declared.NamedGate.{NamedGate}
 use Rattle.model.specs.declared.Chain.{Chain}
 use Rattle.model.specs.declared.Applied.{Applied}
 use Rattle.model.specs.declared.Applied.the-variants as applied
+use Rattle.model.specs.Chain.{Labels, labelsOf}
 use Rattle.model.specs.Slots.{State}
 use Rattle.model.specs.Routing.{gateRun, Step, stepped, runSteps}
 use Rattle.model.specs.Answers.{viewApplied}
@@ -24,7 +25,7 @@ use Rattle.model.specs.Cut.{Ran}
 use Rattle.model.specs.Lists.{Call, gate, named, project, measure, reset, stateOf, answerOf}
 use Rattle.model.specs.Statements.Table.{Row, _when_, AboveWorkspace, NanIn, FirstGround, NoPair, gateTable, gateSteps, cutRows}
 use Rattle.model.specs.Statements.Demand1.{Late, Early}
-use Rattle.model.specs.Statements.Demand1Cuts.{labelsOf, StandsBySix, StandsBySeven, StopsAt, GateEnds, Stops, Labels, labelsAfter}
+use Rattle.model.specs.Statements.Demand1Cuts.{StandsBySix, StandsBySeven, StopsAt, GateEnds, Stops, labelsAfter}
 use Rattle.model.specs.Laws.SoundKept.{Inside, stepped-keeps, accepted-gate, gate-accepted}
 use Rattle.model.specs.Laws.Refusals.{decides-unsound, decides-short, decides-gate, applied-number, first-of, number-picked, run-late, gate-least}
 use Rattle.model.specs.Laws.CutEnds.{CutEnds, above, nan, stored, adjacent-ends, stepped-number, refused-narrowed, stepped-refused, run-on}

@@ -10,7 +10,8 @@ use borrow.Author.Tests.{eq-eqb, ne-eqb}
 use lib.ListN.{length, getD, set, length-set}
 use lib.Seq.{getD-set-same, getD-set-other}
 use Rattle.model.specs.declared.Chain.{Chain}
-use Rattle.model.specs.Statements.Demand1Cuts.{Labels, labelsOf, exchanged}
+use Rattle.model.specs.Chain.{Labels, labelsOf}
+use Rattle.model.specs.Statements.Demand1Cuts.{exchanged}
 use Rattle.model.specs.Statements.Soundness.{Undone, Sound}
 
 -- ---- k and k + 1 exchanged

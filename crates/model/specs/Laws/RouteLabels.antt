@@ -13,12 +13,12 @@ use lib.Seq.{ext-getD}
 use Rattle.complex.specs.Loops.{tabulate, length-tabulate, getD-tabulate}
 use Rattle.complex.specs.declared.Complex.{Complex}
 use Rattle.model.specs.declared.Chain.{Chain}
-use Rattle.model.specs.Chain.{siteOf}
+use Rattle.model.specs.Chain.{siteOf, Labels, labelsOf}
 use Rattle.model.specs.Slots.{State}
 use Rattle.model.specs.Cut.{Ran, ran, adjacent}
 use Rattle.model.specs.Routing.{relabelled, Route, downTo, routeOf, Step, swapStep, gateStep, stepsOf, follow, stepped, runSteps}
 use Rattle.model.specs.Statements.Table.{gateSteps}
-use Rattle.model.specs.Statements.Demand1Cuts.{Labels, labelsOf, exchanged, exchangedAll, swapsOf, siteAfter, siteBefore, labelsAfter}
+use Rattle.model.specs.Statements.Demand1Cuts.{exchanged, exchangedAll, swapsOf, siteAfter, siteBefore, labelsAfter}
 use Rattle.model.specs.Statements.Soundness.{Sound}
 use Rattle.model.specs.Laws.Labels.{turn, turn-first, turn-second, turn-else, three, Maps, sound-maps, sites-apart, exchanged-qubit, exchanged-site, exchanged-past, exchanged-maps}
 use Rattle.model.specs.Laws.SoundKept.{Inside, stepped-keeps, gate-inside, relabelledBy}

@@ -16,11 +16,10 @@ use Rattle.complex.specs.Loops.{each-keeps}
 use Rattle.model.specs.declared.Center.{Center}
 use Rattle.model.specs.declared.Center.the-variants.{At}
 use Rattle.model.specs.declared.Chain.{Chain}
-use Rattle.model.specs.Chain.{withCenter, withBond, withBits, withTruncation}
+use Rattle.model.specs.Chain.{withCenter, withBond, withBits, withTruncation, labelsOf}
 use Rattle.model.specs.Routing.{relabelled}
 use Rattle.model.specs.Qr.{Passed, Kept, keptOf, columnOf, raised, qr, rankTolerance}
 use Rattle.model.specs.Truncation.{rank}
-use Rattle.model.specs.Statements.Demand1Cuts.{labelsOf}
 use Rattle.model.specs.Statements.Soundness.{Bonds, Sound}
 use Rattle.model.specs.Laws.Labels.{sound-maps, exchanged-maps}
 use Rattle.model.specs.Laws.Tests.{either-way, by-test}

@@ -14,7 +14,7 @@ use Rattle.gates.specs.Named.{matrixOf}
 use Rattle.gates.specs.declared.NamedGate.{NamedGate}
 use Rattle.model.specs.declared.Applied.{Applied}
 use Rattle.model.specs.declared.Applied.the-variants as applied
-use Rattle.model.specs.declared.Chain.{Chain}
+use Rattle.model.specs.Chain.{Labels, labelsOf}
 use Rattle.model.specs.Slots.{State}
 use Rattle.model.specs.Svd.{Svd, values}
 use Rattle.model.specs.Truncation.{share}
@@ -69,14 +69,6 @@ unfoldable pub WeightOfList : Type 0
 WeightOfList = (cs : List Call) (s : State) → discarded (finalState cs s) ≡ foldl (add binary64) (discarded s) (listShares cs s)
 
 -- ---- labels
-
--- the two maps: the site of each qubit, and the qubit at each site
-pub record Labels : Type 0 where
-  pub sites : List ℕ
-  pub qubits : List ℕ
-
-abbrev pub labelsOf : Chain → Labels
-labelsOf c = record { sites = c .«logical_to_site»; qubits = c .«site_to_logical» }
 
 -- the qubits at sites k and k + 1 exchanged, in both maps; and swaps in turn
 abbrev pub exchanged : ℕ → Labels → Labels
