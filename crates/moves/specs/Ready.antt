@@ -12,7 +12,7 @@ use Rattle.model.specs.Slots.{State, held, slotOf, slotRoom, storeRoom, workRoo
 use Rattle.model.specs.Moves.{stepRight, stepLeft, walkRight, moved}
 use Rattle.model.specs.Statements.Soundness.{Sound}
 use Rattle.moves.specs.Steps.{Pair, factorsRight, factorsLeft, storedRight, storedLeft}
-use Rattle.model.specs.Laws.MoveLaws.{Narrowed, Apart, stepRight-narrowed, stepRight-apart, stepLeft-narrowed, stepLeft-apart, walkRight-narrowed, walkRight-apart, moved-narrowed, moved-apart}
+use Rattle.model.specs.Laws.MoveLaws.{Narrowed, narrowed-qubits, narrowed-cap, Apart, stepRight-narrowed, stepRight-apart, stepLeft-narrowed, stepLeft-apart, walkRight-narrowed, walkRight-apart, moved-narrowed, moved-apart}
 
 -- a sound record, with a store of its size and room to work
 pub record Ready (c : Chain) (store work : List Float) : Type 0 where
@@ -77,8 +77,8 @@ stays c r store out s x y e =
     let eo : out ≡ s .store = ap (λ (t : State). t .store) e in
     record {
       sound = rw ec (x .sound);
-      qubits = ap (λ (t : Chain). t .«num_qubits») ec ∙ x .rest .qubits;
-      cap = ap (λ (t : Chain). t .«max_bond_dim») ec ∙ x .rest .cap;
+      qubits = ap (λ (t : Chain). t .«num_qubits») ec ∙ narrowed-qubits x;
+      cap = ap (λ (t : Chain). t .«max_bond_dim») ec ∙ narrowed-cap x;
       long = ap length eo ∙ y .long;
     }
 

@@ -14,7 +14,7 @@ use Rattle.model.specs.Slots.{State, held, slotRoom, slotOf, storeRoom}
 use Rattle.model.specs.Moves.{moved, established}
 use Rattle.model.specs.Born.{readied}
 use Rattle.model.specs.Statements.Soundness.{Sound}
-use Rattle.model.specs.Laws.MoveLaws.{Narrowed, Apart, moved-narrowed, moved-apart, established-narrowed, established-apart, readied-by}
+use Rattle.model.specs.Laws.MoveLaws.{Narrowed, narrowed-qubits, narrowed-cap, Apart, moved-narrowed, moved-apart, established-narrowed, established-apart, readied-by}
 use Rattle.moves.specs.Ready.{Ready}
 
 pub record Placed (k : ℕ) (s : State) : Type 0 where
@@ -54,8 +54,8 @@ slot-fits d k bl br store h = omega (arith, slot-length d k bl br store h, mul-l
 placed : {lo hi : ℕ} (k : ℕ) (s t : State) → Placed k s → Narrowed lo hi (s .chain) (t .chain) → Apart (s .chain .«num_qubits») (s .chain .«max_bond_dim») lo hi (s .store) (t .store) → Placed k t
 placed k s t h x y = record {
   sound = x .sound;
-  store-room = rw (x .rest .qubits, x .rest .cap, y .long) (h .store-room);
-  place = rw (x .rest .qubits) (h .place);
+  store-room = rw (narrowed-qubits x, narrowed-cap x, y .long) (h .store-room);
+  place = rw (narrowed-qubits x) (h .place);
 }
 
 readied-placed : (k : ℕ) (s : State) → Placed k s → Placed k (readied k s)

@@ -128,7 +128,7 @@ attempted gate k s = room (ltb (2 ^ s .chain .«workspace_exponent») (workspace
 pub established-narrow : (k : ℕ) (s : State) → Sound (s .chain) → k + 1 < s .chain .«num_qubits» → AboveWorkspace k (established k s) → AboveWorkspace k s
 established-narrow k s h inside a =
     let x = established-narrowed k s h (omega arith) in
-    let e : 2 ^ established k s .chain .«workspace_exponent» ≡ 2 ^ s .chain .«workspace_exponent» = ap (λ (m : ℕ). 2 ^ m) (x .rest .exponent) in
+    let e : 2 ^ established k s .chain .«workspace_exponent» ≡ 2 ^ s .chain .«workspace_exponent» = ap (λ (m : ℕ). 2 ^ m) (λ i. x .rest .settings i .exponent) in
     omega (arith, mul-le-mul (x .left-most k) (x .right-most (k + 1)), mul-le-mul (x .right-most k) (x .right-most (k + 1)))
 
 -- ---- a cut, made again at most once

@@ -157,7 +157,7 @@ module _ (gate : List (List Complex)) (k : ℕ) (s : State) (h : Sound (s .chain
       let t = lastIn gate k s in
       let d = cutSvd gate k s in
       let x = last-narrowed gate k s h inside in
-      let e : rankOf t d ≡ rankOf s d = λ i. rank (x .rest .epsilon i) (x .rest .cap i) (values d) in
+      let e : rankOf t d ≡ rankOf s d = λ i. rank (x .rest .settings i .epsilon) (x .rest .settings i .cap) (values d) in
       let most : s .chain .«num_qubits» ≤ 64 = h .settings .qubits .1 in (
         getD-set-same (t .chain .«bond_right») k (rankOf t d) 0 (omega (arith, x .sound .sizes .rights)) ∙ e,
         getD-set-same (t .chain .«bond_left») (k + 1) (rankOf t d) 0 (omega (arith, x .sound .sizes .lefts)) ∙ e,

@@ -60,7 +60,7 @@ module _ (x : Step) (s : State) (h : Sound (s .chain)) (inside : x .site + 1 < s
   stored-discarded =
       let d = cutSvd (x .gate) (x .site) s in
       let same = last-narrowed (x .gate) (x .site) s h inside .rest in
-      (λ i. recorded (same .discarded i) (share (values d) (rank (same .epsilon i) (same .cap i) (values d)))) ∙ recorded-added (discarded s) (cutShare (x .gate) (x .site) s)
+      (λ i. recorded (same .totals i .discarded) (share (values d) (rank (same .settings i .epsilon) (same .settings i .cap) (values d)))) ∙ recorded-added (discarded s) (cutShare (x .gate) (x .site) s)
 
   relabels-discarded : (t : State) → discarded (relabelledBy x t) ≡ discarded t
   relabels-discarded t = either-way (λ (c : Chain). c .«truncation_discarded» ≡ discarded t) (x .relabels) (relabelled (x .site) (t .chain)) (t .chain) refl refl
@@ -70,7 +70,7 @@ module _ (x : Step) (s : State) (h : Sound (s .chain)) (inside : x .site + 1 < s
 
   -- a refused cut leaves the weight
   refused-follows : (r : Ran) → CutEnds (x .gate) (x .site) s r → eqb (r .refused) 0 ≡ false → Follows r
-  refused-follows r c e = rw (e, e) (refused-narrowed (x .gate) (x .site) s h inside r c (eqb-false (r .refused) 0 e) .rest .discarded)
+  refused-follows r c e = rw (e, e) (λ i. refused-narrowed (x .gate) (x .site) s h inside r c (eqb-false (r .refused) 0 e) .rest .totals i .discarded)
 
   step-ends : (r : Ran) → CutEnds (x .gate) (x .site) s r → Follows r
   step-ends r (above a e) = refused-follows r (above a e) (ap (λ (y : Ran). eqb (y .refused) 0) e)
@@ -113,7 +113,7 @@ module _ (s : State) (work : List Float) where
   readied-reads : (q : ℕ) → AcceptedReading s work q → Reads (s .chain) (readied (siteOf (s .chain) q) s .chain)
   readied-reads q a =
       let x = readied-narrowed (siteOf (s .chain) q) s (a .sound) (a .site-below) .rest in
-      record { labels = λ i. record { sites = x .sites i; qubits = x .labels i }; weight = x .discarded }
+      record { labels = x .labels; weight = λ i. x .totals i .discarded }
 
   pub project-reads : (q : ℕ) (o : Bool) → Reads (s .chain) (projectCall s work q o .chain)
   unfolding projectCall

@@ -167,8 +167,8 @@ stopped steps s work r h refused z = record {
   route = z .route;
   done = z .done;
   stands = stands (z .cut) (runSteps (z .before) s .state) work r (z .ends) refused;
-  weight = z .same .discarded ∙ run-discarded (z .before) s h (z .within);
-  labels = (λ i. record { sites = z .same .sites i; qubits = z .same .labels i }) ∙ run-labels (z .before) s h (z .within) (z .done);
+  weight = (λ i. z .same .totals i .discarded) ∙ run-discarded (z .before) s h (z .within);
+  labels = z .same .labels ∙ run-labels (z .before) s h (z .within) (z .done);
 }
 
 -- ---- a gate

@@ -35,32 +35,18 @@ use Rattle.model.specs.Laws.Tests.{either-way}
 -- ---- no change, and one change after another
 
 as-before : (c : Chain) → AsBefore c c
-as-before c = record {
-  qubits = refl;
-  cap = refl;
-  exponent = refl;
-  epsilon = refl;
-  clamp = refl;
-  sites = refl;
-  labels = refl;
-  bits = refl;
-  high-water = refl;
-  discarded = refl;
-}
+as-before c = record { settings = refl; labels = refl; bits = refl; totals = refl }
 
 as-before-then : {a b c : Chain} → AsBefore a b → AsBefore b c → AsBefore a c
-as-before-then x y = record {
-  qubits = y .qubits ∙ x .qubits;
-  cap = y .cap ∙ x .cap;
-  exponent = y .exponent ∙ x .exponent;
-  epsilon = y .epsilon ∙ x .epsilon;
-  clamp = y .clamp ∙ x .clamp;
-  sites = y .sites ∙ x .sites;
-  labels = y .labels ∙ x .labels;
-  bits = y .bits ∙ x .bits;
-  high-water = y .high-water ∙ x .high-water;
-  discarded = y .discarded ∙ x .discarded;
-}
+as-before-then x y = record { settings = y .settings ∙ x .settings; labels = y .labels ∙ x .labels; bits = y .bits ∙ x .bits; totals = y .totals ∙ x .totals }
+
+-- the two settings that sizes are made of
+module _ {lo hi : ℕ} {c c′ : Chain} (x : Narrowed lo hi c c′) where
+  pub narrowed-qubits : c′ .«num_qubits» ≡ c .«num_qubits»
+  narrowed-qubits = λ i. x .rest .settings i .qubits
+
+  pub narrowed-cap : c′ .«max_bond_dim» ≡ c .«max_bond_dim»
+  narrowed-cap = λ i. x .rest .settings i .cap
 
 pub narrowed-none : (lo hi : ℕ) (c : Chain) → Sound c → Narrowed lo hi c c
 narrowed-none lo hi c h = record {
@@ -113,18 +99,7 @@ module _ (s : State) (h : Sound (s .chain)) (k : ℕ) (inside : k + 1 < s .chain
       let lr : k < length (s .chain .«bond_right») = omega arith in
       record {
         sound = bond-sound (s .chain) h k bond inside low (omega (arith, h .bonds .right-range k (omega arith) .1));
-        rest = record {
-          qubits = refl;
-          cap = refl;
-          exponent = refl;
-          epsilon = refl;
-          clamp = refl;
-          sites = refl;
-          labels = refl;
-          bits = refl;
-          high-water = refl;
-          discarded = refl;
-        };
+        rest = record { settings = refl; labels = refl; bits = refl; totals = refl };
         left-most = λ j. after-set (λ (x : ℕ). x ≤ lefts s j) (s .chain .«bond_left») (k + 1) j bond ll (λ e. rw e (omega arith)) (λ e. omega arith);
         right-most = λ j. after-set (λ (x : ℕ). x ≤ rights s j) (s .chain .«bond_right») k j bond lr (λ e. rw e high) (λ e. omega arith);
         left-apart = λ j o. getD-set-other (s .chain .«bond_left») (k + 1) j bond 0 (λ e. ⊎-elim (λ (z : j ≤ k). omega arith) (λ (z : k + 1 < j). omega arith) o);
@@ -235,7 +210,7 @@ walkRight-narrowed zero k s h inside = narrowed-none k (k + 0) (s .chain) h
 walkRight-narrowed (suc m) k s h inside =
     let one = stepRight-narrowed k s h (omega arith) in
     narrowed-then k (k + suc m) (omega arith) (omega arith) (omega arith) (omega arith) one
-    (walkRight-narrowed m (k + 1) (stepRight k s) (one .sound) (omega (arith, one .rest .qubits)))
+    (walkRight-narrowed m (k + 1) (stepRight k s) (one .sound) (omega (arith, narrowed-qubits one)))
 
 pub walkLeft-narrowed : (m k : ℕ) (s : State) → Sound (s .chain) → m ≤ k → k < s .chain .«num_qubits» → Narrowed (k - m) k (s .chain) (walkLeft m k s .chain)
 unfolding walkLeft
@@ -243,7 +218,7 @@ walkLeft-narrowed zero k s h enough inside = narrowed-none (k - 0) k (s .chain) 
 walkLeft-narrowed (suc m) k s h enough inside =
     let one = stepLeft-narrowed (k - 1) s h (omega arith) in
     narrowed-then (k - suc m) k (omega arith) (omega arith) (omega arith) (omega arith) one
-    (walkLeft-narrowed m (k - 1) (stepLeft (k - 1) s) (one .sound) (omega arith) (omega (arith, one .rest .qubits)))
+    (walkLeft-narrowed m (k - 1) (stepLeft (k - 1) s) (one .sound) (omega arith) (omega (arith, narrowed-qubits one)))
 
 module _ (n d : ℕ) where
   pub walkRight-apart : (m k : ℕ) (s : State) → Sound (s .chain) → s .chain .«num_qubits» ≡ n → s .chain .«max_bond_dim» ≡ d → k + m < n → storeRoom n d ≤ length (s .store)
@@ -254,7 +229,7 @@ module _ (n d : ℕ) where
       let one = stepRight-narrowed k s h (omega arith) in
       let first : Apart n d k (k + 1) (s .store) (stepRight k s .store) = apart-at en ed (stepRight-apart k s h (omega arith) (rw (en, ed) room)) in
       apart-then k (k + suc m) (omega arith) (omega arith) (omega arith) (omega arith) first
-      (walkRight-apart m (k + 1) (stepRight k s) (one .sound) (one .rest .qubits ∙ en) (one .rest .cap ∙ ed) (omega arith) (omega (arith, first .long)))
+      (walkRight-apart m (k + 1) (stepRight k s) (one .sound) (narrowed-qubits one ∙ en) (narrowed-cap one ∙ ed) (omega arith) (omega (arith, first .long)))
 
   pub walkLeft-apart : (m k : ℕ) (s : State) → Sound (s .chain) → s .chain .«num_qubits» ≡ n → s .chain .«max_bond_dim» ≡ d → m ≤ k → k < n → storeRoom n d ≤ length (s .store)
       → Apart n d (k - m) k (s .store) (walkLeft m k s .store)
@@ -264,25 +239,14 @@ module _ (n d : ℕ) where
       let one = stepLeft-narrowed (k - 1) s h (omega arith) in
       let first : Apart n d (k - 1) (k - 1 + 1) (s .store) (stepLeft (k - 1) s .store) = apart-at en ed (stepLeft-apart (k - 1) s h (omega arith) (rw (en, ed) room)) in
       apart-then (k - suc m) k (omega arith) (omega arith) (omega arith) (omega arith) first
-      (walkLeft-apart m (k - 1) (stepLeft (k - 1) s) (one .sound) (one .rest .qubits ∙ en) (one .rest .cap ∙ ed) (omega arith) (omega arith) (omega (arith, first .long)))
+      (walkLeft-apart m (k - 1) (stepLeft (k - 1) s) (one .sound) (narrowed-qubits one ∙ en) (narrowed-cap one ∙ ed) (omega arith) (omega arith) (omega (arith, first .long)))
 
 -- ---- moves
 
 centered-narrowed : (lo hi : ℕ) (a b : Chain) (to : ℕ) → to < b .«num_qubits» → Narrowed lo hi a b → Narrowed lo hi a (withCenter b (At to))
 centered-narrowed lo hi a b to inside x = record {
   sound = center-sound b (x .sound) (At to) (λ k e. let same : to ≡ k = cc in omega arith);
-  rest = record {
-    qubits = x .rest .qubits;
-    cap = x .rest .cap;
-    exponent = x .rest .exponent;
-    epsilon = x .rest .epsilon;
-    clamp = x .rest .clamp;
-    sites = x .rest .sites;
-    labels = x .rest .labels;
-    bits = x .rest .bits;
-    high-water = x .rest .high-water;
-    discarded = x .rest .discarded;
-  };
+  rest = record { settings = x .rest .settings; labels = x .rest .labels; bits = x .rest .bits; totals = x .rest .totals };
   left-most = x .left-most;
   right-most = x .right-most;
   left-apart = x .left-apart;
@@ -300,12 +264,12 @@ module _ (from to : ℕ) (s : State) where
     walkedRight = walkRight-narrowed (to - from) from s h (omega arith)
 
     walkedLeft : Narrowed (from - (from - to)) from (walkRight (to - from) from s .chain) (walkLeft (from - to) from (walkRight (to - from) from s) .chain)
-    walkedLeft = walkLeft-narrowed (from - to) from (walkRight (to - from) from s) (walkedRight .sound) (omega arith) (omega (arith, walkedRight .rest .qubits))
+    walkedLeft = walkLeft-narrowed (from - to) from (walkRight (to - from) from s) (walkedRight .sound) (omega arith) (omega (arith, narrowed-qubits walkedRight))
 
     pub moved-narrowed : Narrowed (min from to) (max from to) (s .chain) (moved from to s .chain)
     unfolding moved
     moved-narrowed =
-        centered-narrowed (min from to) (max from to) (s .chain) _ to (omega (arith, walkedRight .rest .qubits, walkedLeft .rest .qubits))
+        centered-narrowed (min from to) (max from to) (s .chain) _ to (omega (arith, narrowed-qubits walkedRight, narrowed-qubits walkedLeft))
         (narrowed-then (min from to) (max from to) (omega arith) (omega arith) (omega arith) (omega arith) walkedRight walkedLeft)
 
     pub moved-apart : storeRoom (s .chain .«num_qubits») (s .chain .«max_bond_dim») ≤ length (s .store)
@@ -316,7 +280,7 @@ module _ (from to : ℕ) (s : State) where
         let d = s .chain .«max_bond_dim» in
         let first = walkRight-apart n d (to - from) from s h refl refl (omega arith) room in
         apart-then (min from to) (max from to) (omega arith) (omega arith) (omega arith) (omega arith) first
-        (walkLeft-apart n d (from - to) from (walkRight (to - from) from s) (walkedRight .sound) (walkedRight .rest .qubits) (walkedRight .rest .cap) (omega arith) hf (omega (arith, first .long)))
+        (walkLeft-apart n d (from - to) from (walkRight (to - from) from s) (walkedRight .sound) (narrowed-qubits walkedRight) (narrowed-cap walkedRight) (omega arith) hf (omega (arith, first .long)))
 
 abbrev pub lastSite : State → ℕ
 lastSite s = s .chain .«num_qubits» - 1
@@ -333,7 +297,7 @@ module _ (to : ℕ) (s : State) where
     twice-narrowed a b ha hb =
         let first = moved-narrowed a b s h (omega arith) (omega arith) in
         narrowed-then 0 (lastSite s) (omega arith) (omega arith) (omega arith) (omega arith) first
-        (moved-narrowed b to (moved a b s) (first .sound) (omega (arith, first .rest .qubits)) (omega (arith, first .rest .qubits)))
+        (moved-narrowed b to (moved a b s) (first .sound) (omega (arith, narrowed-qubits first)) (omega (arith, narrowed-qubits first)))
 
     pub established-narrowed : Narrowed 0 (lastSite s) (s .chain) (established to s .chain)
     unfolding established
@@ -346,8 +310,8 @@ module _ (to : ℕ) (s : State) where
           let first = moved-narrowed a b s h (omega arith) (omega arith) in
           let kept = moved-apart a b s h (omega arith) (omega arith) room in
           apart-then 0 (lastSite s) (omega arith) (omega arith) (omega arith) (omega arith) kept
-          (apart-at (first .rest .qubits) (first .rest .cap)
-          (moved-apart b to (moved a b s) (first .sound) (omega (arith, first .rest .qubits)) (omega (arith, first .rest .qubits)) (rw (first .rest .qubits, first .rest .cap, kept .long) room)))
+          (apart-at (narrowed-qubits first) (narrowed-cap first)
+          (moved-apart b to (moved a b s) (first .sound) (omega (arith, narrowed-qubits first)) (omega (arith, narrowed-qubits first)) (rw (narrowed-qubits first, narrowed-cap first, kept .long) room)))
 
       pub established-apart : Apart (s .chain .«num_qubits») (s .chain .«max_bond_dim») 0 (lastSite s) (s .store) (established to s .store)
       unfolding established

@@ -219,7 +219,7 @@ module _ (x : Step) (s : State) (h : Sound (s .chain)) (inside : x .site + 1 < s
   step-ends r (stored a n e) =
       let same = last-narrowed (x .gate) (x .site) s h inside .rest in
       subst (λ (y : Ran). Exchanged (follow y (λ t. ran 0 (relabelledBy x t)))) (sym e)
-      (λ z. relabels-exchange (x .relabels) (cutAt (x .gate) (x .site) s .chain) (λ i. record { sites = same .sites i; qubits = same .labels i }))
+      (λ z. relabels-exchange (x .relabels) (cutAt (x .gate) (x .site) s .chain) (same .labels))
 
   step-labels : Exchanged (stepped x s)
   unfolding stepped

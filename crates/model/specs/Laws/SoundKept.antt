@@ -17,7 +17,7 @@ use Rattle.model.specs.declared.Center.the-variants.{At}
 use Rattle.model.specs.declared.Chain.{Chain}
 use Rattle.model.specs.declared.WeightSide.{WeightSide}
 use Rattle.model.specs.declared.WeightSide.the-variants.{Left, Right}
-use Rattle.model.specs.Chain.{siteOf, withBond, withTruncation}
+use Rattle.model.specs.Chain.{settingsOf, siteOf, withBond, withTruncation}
 use Rattle.model.specs.Slots.{State, held, lefts, rights}
 use Rattle.model.specs.Svd.{Svd, values, rawValue, anyNan}
 use Rattle.model.specs.Truncation.{resolvable, share, recorded, workspace}
@@ -46,8 +46,12 @@ pub record Keeps (c c′ : Chain) : Type 0 where
   pub epsilon : c′ .«svd_epsilon» ≡ c .«svd_epsilon»
   pub clamp : c′ .«norm_clamp_min» ≡ c .«norm_clamp_min»
 
+-- the settings are as before if their group is
+keeps-by : {c c′ : Chain} → Sound c′ → settingsOf c′ ≡ settingsOf c → Keeps c c′
+keeps-by h e = record { sound = h; qubits = λ i. e i .qubits; cap = λ i. e i .cap; exponent = λ i. e i .exponent; epsilon = λ i. e i .epsilon; clamp = λ i. e i .clamp }
+
 pub keeps-none : (c : Chain) → Sound c → Keeps c c
-keeps-none c h = record { sound = h; qubits = refl; cap = refl; exponent = refl; epsilon = refl; clamp = refl }
+keeps-none c h = keeps-by h refl
 
 pub keeps-then : {a b c : Chain} → Keeps a b → Keeps b c → Keeps a c
 keeps-then x y = record {
@@ -60,14 +64,7 @@ keeps-then x y = record {
 }
 
 pub narrowed-keeps : {lo hi : ℕ} {a b : Chain} → Narrowed lo hi a b → Keeps a b
-narrowed-keeps x = record {
-  sound = x .sound;
-  qubits = x .rest .qubits;
-  cap = x .rest .cap;
-  exponent = x .rest .exponent;
-  epsilon = x .rest .epsilon;
-  clamp = x .rest .clamp;
-}
+narrowed-keeps x = keeps-by (x .sound) (x .rest .settings)
 
 -- ---- the centre brought to a site, and onto a pair if the cut keeps one
 
@@ -105,16 +102,8 @@ module _ (k : ℕ) (maintained : Bool) (side : WeightSide) (s : State) (h : Soun
       let x = recorded (c .«truncation_discarded») (share (values d) kept) in
       let least : 1 ≤ kept = cut-rank-least (c .«svd_epsilon») (c .«max_bond_dim») (values d) (h .settings .cap .0) in
       let most : kept ≤ c .«max_bond_dim» = cut-rank-most (c .«svd_epsilon») (c .«max_bond_dim») (values d) in
-      record {
-        sound = center-sound (withBond (withTruncation c high x) k kept)
-            (bond-sound (withTruncation c high x) (truncation-sound c h high x (omega arith) (omega (arith, h .high-water .1))) k kept inside least (omega arith))
-            _ (stored-centre (s .chain .«num_qubits») k inside maintained side (s .chain .center) (h .centre));
-        qubits = refl;
-        cap = refl;
-        exponent = refl;
-        epsilon = refl;
-        clamp = refl;
-      }
+      let bonded = bond-sound (withTruncation c high x) (truncation-sound c h high x (omega arith) (omega (arith, h .high-water .1))) k kept inside least (omega arith) in
+      keeps-by (center-sound (withBond (withTruncation c high x) k kept) bonded _ (stored-centre (s .chain .«num_qubits») k inside maintained side (s .chain .center) (h .centre))) refl
 
   concluded-keeps : Keeps (s .chain) (concluded k maintained side s d .state .chain)
   concluded-keeps =
@@ -171,7 +160,7 @@ abbrev pub relabelledBy : Step → State → State
 relabelledBy x t = held (cond (x .relabels) (relabelled (x .site) (t .chain)) (t .chain)) (t .store)
 
 relabelled-keeps : (c : Chain) (k : ℕ) → Sound c → k + 1 < c .«num_qubits» → (b : Bool) → Keeps c (cond b (relabelled k c) c)
-relabelled-keeps c k h inside true = record { sound = relabelled-sound c h k inside; qubits = refl; cap = refl; exponent = refl; epsilon = refl; clamp = refl }
+relabelled-keeps c k h inside true = keeps-by (relabelled-sound c h k inside) refl
 relabelled-keeps c k h inside false = keeps-none c h
 
 pub stepped-keeps : (x : Step) (s : State) → Sound (s .chain) → x .site + 1 < s .chain .«num_qubits» → Keeps (s .chain) (stepped x s .state .chain)
@@ -215,14 +204,7 @@ module _ (k : ℕ) (o : Bool) (s : State) where
   resetAt-chain = either-way (λ (t : State). t .chain ≡ s .chain) (le (weightAt k o s) (s .chain .«norm_clamp_min»)) _ _ refl refl
 
 pub flagged-keeps : (flag : ℕ) (b : Bool) (s : State) → Sound (s .chain) → Keeps (s .chain) (flagged flag b s .chain)
-flagged-keeps flag b s h = record {
-  sound = bits-sound (s .chain) h _ (rw length-set (h .sizes .bits));
-  qubits = refl;
-  cap = refl;
-  exponent = refl;
-  epsilon = refl;
-  clamp = refl;
-}
+flagged-keeps flag b s h = keeps-by (bits-sound (s .chain) h _ (rw length-set (h .sizes .bits))) refl
 
 -- ---- the calls
 

@@ -13,7 +13,7 @@ use Rattle.complex.specs.declared.Complex.{Complex}
 use Rattle.gates.specs.Gate.{entry}
 use Rattle.model.specs.declared.Center.the-variants.{At}
 use Rattle.model.specs.declared.Chain.{Chain}
-use Rattle.model.specs.Chain.{bondLeft, bondRight}
+use Rattle.model.specs.Chain.{bondLeft, bondRight, settingsOf, labelsOf, cutTotalsOf}
 use Rattle.model.specs.Slots.{State, storeRoom, slotOf, amplitude}
 use Rattle.model.specs.Pair.{gatedTheta, matrixOf, adjointOf, isometrySite, scaledSite, vtSite, scaledVtSite}
 use Rattle.model.specs.Moves.{moved, established}
@@ -69,16 +69,10 @@ BondLaw =
 
 -- all of a record but its bonds and its centre
 pub record AsBefore (c c′ : Chain) : Type 0 where
-  pub qubits : c′ .«num_qubits» ≡ c .«num_qubits»
-  pub cap : c′ .«max_bond_dim» ≡ c .«max_bond_dim»
-  pub exponent : c′ .«workspace_exponent» ≡ c .«workspace_exponent»
-  pub epsilon : c′ .«svd_epsilon» ≡ c .«svd_epsilon»
-  pub clamp : c′ .«norm_clamp_min» ≡ c .«norm_clamp_min»
-  pub sites : c′ .«logical_to_site» ≡ c .«logical_to_site»
-  pub labels : c′ .«site_to_logical» ≡ c .«site_to_logical»
+  pub settings : settingsOf c′ ≡ settingsOf c
+  pub labels : labelsOf c′ ≡ labelsOf c
   pub bits : c′ .«classical_bits» ≡ c .«classical_bits»
-  pub high-water : c′ .«bond_high_water» ≡ c .«bond_high_water»
-  pub discarded : c′ .«truncation_discarded» ≡ c .«truncation_discarded»
+  pub totals : cutTotalsOf c′ ≡ cutTotalsOf c
 
 -- the record c′ that a move across the sites lo to hi makes of c: it is sound, no bond has grown, and the bonds that are not between lo and hi are those of c
 pub record Narrowed (lo hi : ℕ) (c c′ : Chain) : Type 0 where
