@@ -5,7 +5,7 @@ use mathlib.Core.List.{List, _++_}
 use mathlib.Core.Bool.{Bool, true, false, not, cond}
 use lib.Dec.{T, ltb, eqb}
 use native.Mathlib.Omega.{arith}
-use lib.ListN.{length, take, drop}
+use lib.ListN.{length, drop}
 use lib.Ieee.{Float}
 use Rattle.complex.specs.declared.Complex.{Complex}
 use Rattle.gates.specs.declared.NamedGate.{NamedGate}
@@ -21,14 +21,14 @@ use Rattle.model.specs.declared.Measured.{Measured}
 use Rattle.model.specs.declared.Measured.the-variants as measured
 use Rattle.model.specs.declared.Contracted.the-variants as contracted
 use Rattle.model.specs.Chain.{siteOf}
-use Rattle.model.specs.Slots.{State, held, storeRoom}
+use Rattle.model.specs.Slots.{State, storeRoom}
 use Rattle.model.specs.Cut.{Ran, ran}
 use Rattle.model.specs.Routing.{gateRun}
 use Rattle.model.specs.Born.{drawnAt, projectedAt, resetAt, readied}
-use Rattle.model.specs.Environment.{Env, leftEnv, rightEnv}
-use Rattle.model.specs.Sound.{settingsFit, sound}
+use Rattle.model.specs.Environment.{Env}
+use Rattle.model.specs.Sound.{settingsFit}
 use Rattle.model.specs.Start.{freshChain, freshStore, zeroChain}
-use Rattle.model.specs.Calls.{After, after, Started, started, startCall, firstOf, short, cleared, gateRefusal, appliedOf, gateAfter, gateCall, namedGateCall, projectRefusal, projectAnswer, projectCall, measureRefusal, flagged, measureCall, resetRefusal, resetCall, Walked, walked, envRefusal, envAfter, leftEnvironmentCall, rightEnvironmentCall}
+use Rattle.model.specs.Calls.{After, after, Started, started, startCall, cleared, gateRefusal, appliedOf, gateAfter, gateCall, namedGateCall, projectRefusal, projectAnswer, projectCall, measureRefusal, flagged, measureCall, resetRefusal, resetCall, walked, envRefusal, envAfter}
 use Rattle.chain.specs.Accepted.{startNumber}
 
 -- ---- the test of the number
@@ -43,10 +43,6 @@ module _ {A : Type 0} {k number : ℕ} (e : k ≡ number) where
       either : (b : Bool) → (T b → number ≡ 0) → f number ≡ cond b x (f number)
       either true g = absurd (above (e ∙ g tt))
       either false g = refl
-
--- a number that was tested, in the definition's words
-pub proper : (c : Chain) (store work : List Float) (outside x y : Bool) → x ≡ y → firstOf (not (sound c)) (short c store work) outside (not x) ≡ firstOf (not (sound c)) (short c store work) outside (not y)
-proper c store work outside x y e = ap (λ (b : Bool). firstOf (not (sound c)) (short c store work) outside (not b)) e
 
 -- ---- a gate
 
@@ -65,15 +61,16 @@ module _ (s : State) (work : List Float) (q0 q1 : ℕ) (gate : List (List Comple
   unfolding gateCall
   gate-refused = turned e (λ (n : ℕ). after (applied.Refused n) s work) _
 
-pub named-ends : (s : State) (work : List Float) (q0 q1 : ℕ) (name : NamedGate) (gate : List (List Complex)) (x : After Applied) → gate ≡ matrixOf name → x ≡ gateCall s work q0 q1 gate → x ≡ namedGateCall s work q0 q1 name
+pub named-ends : (s : State) (work : List Float) (q0 q1 : ℕ) (name : NamedGate) (gate : List (List Complex)) (x : After Applied)
+    → gate ≡ matrixOf name → x ≡ gateCall s work q0 q1 gate → x ≡ namedGateCall s work q0 q1 name
 unfolding namedGateCall
 named-ends s work q0 q1 name gate x e f = f ∙ ap (gateCall s work q0 q1) e
 
 -- ---- a projection, a measurement, a reset; the site is the qubit's
 
 module _ (s : State) (work : List Float) (q : ℕ) (o : Bool) (k : ℕ) (e : k ≡ projectRefusal s work q) where
-  pub project-ends : (site : ℕ) (a : Projected) (t : State) (left : List Float) → k ≡ 0 → site ≡ siteOf (s .chain) q → a ≡ projectAnswer site o (readied site s) → t ≡ projectedAt site o (readied site s)
-      → left ≡ cleared (s .chain) work → after a t left ≡ projectCall s work q o
+  pub project-ends : (site : ℕ) (a : Projected) (t : State) (left : List Float) → k ≡ 0 → site ≡ siteOf (s .chain) q → a ≡ projectAnswer site o (readied site s)
+      → t ≡ projectedAt site o (readied site s) → left ≡ cleared (s .chain) work → after a t left ≡ projectCall s work q o
   unfolding projectCall
   project-ends site a t left z es ea et el =
       ended e _ _ _ z ((λ i. after (ea i) (et i) (el i)) ∙ ap (λ (k : ℕ). after (projectAnswer k o (readied k s)) (projectedAt k o (readied k s)) (cleared (s .chain) work)) es)
@@ -121,14 +118,18 @@ module _ (s : State) (work out : List Float) (end site : ℕ) (e : Env) (k : ℕ
 -- ---- start
 
 module _ (n d : ℕ) (epsilon clamp : Float) (exponent : ℕ) (store : List Float) (k : ℕ) (e : k ≡ startNumber (settingsFit n d epsilon clamp exponent) (ltb (length store) (storeRoom n d))) where
+  -- the call, by its two tests
+  abbrev tested : Bool → Bool → Started
+  tested fit short =
+      cond (not fit) (started (answer.Refused 1) zeroChain store)
+      (cond short (started (answer.Refused 2) zeroChain store) (started answer.Done (freshChain n d epsilon clamp exponent) (freshStore n d store)))
+
   pub start-ends : (c : Chain) (left : List Float) → k ≡ 0 → c ≡ freshChain n d epsilon clamp exponent → left ≡ freshStore n d store
       → started answer.Done c left ≡ startCall n d epsilon clamp exponent store
   unfolding startCall
   start-ends c left z ec el = (λ i. started answer.Done (ec i) (el i)) ∙ go (settingsFit n d epsilon clamp exponent) (ltb (length store) (storeRoom n d)) (sym e ∙ z)
     where
-      go : (fit short : Bool) → startNumber fit short ≡ 0
-          → started answer.Done (freshChain n d epsilon clamp exponent) (freshStore n d store)
-          ≡ cond (not fit) (started (answer.Refused 1) zeroChain store) (cond short (started (answer.Refused 2) zeroChain store) (started answer.Done (freshChain n d epsilon clamp exponent) (freshStore n d store)))
+      go : (fit short : Bool) → startNumber fit short ≡ 0 → started answer.Done (freshChain n d epsilon clamp exponent) (freshStore n d store) ≡ tested fit short
       go true false z = refl
       go true true z = absurd (omega (arith, z))
       go false short z = absurd (omega (arith, z))
@@ -137,9 +138,7 @@ module _ (n d : ℕ) (epsilon clamp : Float) (exponent : ℕ) (store : List Floa
   unfolding startCall
   start-refused c above ec = (λ i. started (answer.Refused (e i)) (ec i) store) ∙ go (settingsFit n d epsilon clamp exponent) (ltb (length store) (storeRoom n d)) (λ z. above (e ∙ z))
     where
-      go : (fit short : Bool) → (startNumber fit short ≡ 0 → ⊥)
-          → started (answer.Refused (startNumber fit short)) zeroChain store
-          ≡ cond (not fit) (started (answer.Refused 1) zeroChain store) (cond short (started (answer.Refused 2) zeroChain store) (started answer.Done (freshChain n d epsilon clamp exponent) (freshStore n d store)))
+      go : (fit short : Bool) → (startNumber fit short ≡ 0 → ⊥) → started (answer.Refused (startNumber fit short)) zeroChain store ≡ tested fit short
       go true false above = absurd (above refl)
       go true true above = refl
       go false short above = refl

@@ -1,4 +1,4 @@
-use Rattle.model.specs.Slots.{held}
+-- The call of the gate that the name stands for.
 use Rattle.chain.specs.Ends.{named-ends}
 use borrow.Author.Needs.{needs}
 use Rattle.chain.proofs.apply_named_gate.Statement.{statement}
@@ -17,7 +17,7 @@ same-length-2 : tie.Need-same-length-2
 same-length-2 c = search needs
 
 returns : tie.Need-returns
-returns c = named-ends (held (c .before .before .before .before .before .before .before .before .before .before .args .chain) (c .before .before .before .before .before .before .before .before .before .before .args .store .now)) (c .before .before .before .before .before .before .before .before .before .before .args .work .now) (c .before .before .before .before .before .before .before .before .before .before .args .q0) (c .before .before .before .before .before .before .before .before .before .before .args .q1) (c .before .before .before .before .before .before .before .before .before .before .args .name) _ _ (c .before .before .before .before .before .before .before .matrix-4x4 .ensures) (c .before .before .before .before .apply-gate .ensures)
+returns c = named-ends _ _ _ _ _ _ _ (c .before .before .before .before .before .before .before .matrix-4x4 .ensures) (c .before .before .before .before .apply-gate .ensures)
 
 pub apply-named-gate-spec : {M : Type 1} → statement M
 apply-named-gate-spec =

@@ -1,57 +1,71 @@
 -- Refused under the first number that holds, or else walked at the front of the work slice and written to the result slice.
 use mathlib.Core.Path.{sym, _∙_}
-use mathlib.Core.Bool.{_||_}
 use Prim.Native.Nat.{_≤_}
-use native.Mathlib.Nat.{mul-le-mul}
 use native.Mathlib.Omega.{arith}
-use lib.Dec.{leb, ltb}
-use borrow.Author.Tests.{leb-false, ltb-false}
-use lib.ListN.{drop}
 use lib.Seq.{length-take-le}
 use Rattle.model.specs.Slots.{held}
 use Rattle.model.specs.Environment.{leftEnv}
 use Rattle.model.specs.Calls.{leftEnvironmentCall}
 use Rattle.model.specs.Laws.EnvironmentLaws.{leftEnv-squared}
-use Rattle.model.specs.Laws.Tests.{neither}
-use Rattle.chain.specs.Accepted.{walk-fits, walk-inside, result-fits, lent-length, room-fits, walkable, room-again, cleared-after, written-entries}
+use Rattle.chain.specs.Accepted.{AcceptedWalk, walk-accepted, Lent, lent, zero-number, entries-fit, written-entries}
 use Rattle.chain.specs.Ends.{walk-ends, walk-refused}
 use borrow.Author.Needs.{needs}
 use Rattle.chain.proofs.left_environment.Statement.{statement}
 use Rattle.chain.proofs.left_environment.Tie as tie
+
+-- what a call that is not refused has
+accepted : (c : tie.Else1) → (let a = c .before .before .before .before .before .args in AcceptedWalk (held (a .chain) (a .store .now)) (a .work .now) (a .out .now) (a .from) (a .site))
+accepted c = walk-accepted _ _ _ _ _ (zero-number (c .before .walk-refusal .ensures) (c .if1 .left))
+
+-- the part of the work slice that is lent
+part : (c : tie.After-work-room) → (let a = c .before .before .before .before .before .before .args in Lent (held (a .chain) (a .store .now)) (a .work .now) (c .work-room .result))
+part c = let g = accepted (c .before) in lent _ _ (g .sound) (g .long) _ (c .work-room .ensures)
+
+-- the environment's dimension is within the cap
+most : (c : tie.After-compute-left-env) → c .compute-left-env .result ≤ c .before .before .before .before .before .before .before .before .args .chain .«max_bond_dim»
+most c =
+    let a = c .before .before .before .before .before .before .before .before .args in
+    let g = accepted (c .before .before .before) in
+    omega (arith, leftEnv-squared (held (a .chain) (a .store .now)) (g .sound) (a .from) (a .site) (g .end-below) (g .site-within) .most, c .compute-left-env .ensures .0)
 
 walk-refusal-requires : tie.Need-walk-refusal-requires
 walk-refusal-requires c κs = search needs
 
 returns : tie.Need-returns
 unfolding leftEnvironmentCall
-returns c = walk-refused (held (c .before .before .before .before .before .args .chain) (c .before .before .before .before .before .args .store .now)) (c .before .before .before .before .before .args .work .now) (c .before .before .before .before .before .args .out .now) (c .before .before .before .before .before .args .from) (c .before .before .before .before .before .args .site) (leftEnv (c .before .before .before .before .before .args .from) (c .before .before .before .before .before .args .site) (held (c .before .before .before .before .before .args .chain) (c .before .before .before .before .before .args .store .now))) _ (c .before .walk-refusal .ensures) (c .if1 .taken)
+returns c =
+    let a = c .before .before .before .before .before .args in
+    let s = held (a .chain) (a .store .now) in
+    walk-refused s _ _ (a .from) (a .site) (leftEnv (a .from) (a .site) s) _ (c .before .walk-refusal .ensures) (c .if1 .taken)
 
 work-room-requires : tie.Need-work-room-requires
-work-room-requires c κs = walk-fits (c .before .before .before .before .before .args .chain) (c .before .before .before .before .before .args .store .now) (c .before .before .before .before .before .args .work .now) (c .before .before .before .before .before .args .out .now) (leb (c .before .before .before .before .before .args .chain .«num_qubits») (c .before .before .before .before .before .args .from) || ltb (c .before .before .before .before .before .args .chain .«num_qubits») (c .before .before .before .before .before .args .site)) _ (c .before .walk-refusal .ensures) (c .if1 .left) .sound .settings .cap .1
+work-room-requires c κs = accepted c .sound .settings .cap .1
 
 slice-relend-prefix-compute-left-env : tie.Need-slice-relend-prefix-compute-left-env
-slice-relend-prefix-compute-left-env c = let f = walk-fits (c .before .before .before .before .before .before .args .chain) (c .before .before .before .before .before .before .args .store .now) (c .before .before .before .before .before .before .args .work .now) (c .before .before .before .before .before .before .args .out .now) (leb (c .before .before .before .before .before .before .args .chain .«num_qubits») (c .before .before .before .before .before .before .args .from) || ltb (c .before .before .before .before .before .before .args .chain .«num_qubits») (c .before .before .before .before .before .before .args .site)) _ (c .before .before .walk-refusal .ensures) (c .before .if1 .left) in room-fits (c .before .before .before .before .before .before .args .chain) (c .before .before .before .before .before .before .args .store .now) (c .before .before .before .before .before .before .args .work .now) f _ (c .work-room .ensures)
+slice-relend-prefix-compute-left-env c = part c .fits
 
 slice-aggregate-compute-left-env : tie.Need-slice-aggregate-compute-left-env
-slice-aggregate-compute-left-env c = let f = walk-fits (c .before .before .before .before .before .before .before .args .chain) (c .before .before .before .before .before .before .before .args .store .now) (c .before .before .before .before .before .before .before .args .work .now) (c .before .before .before .before .before .before .before .args .out .now) (leb (c .before .before .before .before .before .before .before .args .chain .«num_qubits») (c .before .before .before .before .before .before .before .args .from) || ltb (c .before .before .before .before .before .before .before .args .chain .«num_qubits») (c .before .before .before .before .before .before .before .args .site)) _ (c .before .before .before .walk-refusal .ensures) (c .before .before .if1 .left) in sym (length-take-le _ _ (room-fits (c .before .before .before .before .before .before .before .args .chain) (c .before .before .before .before .before .before .before .args .store .now) (c .before .before .before .before .before .before .before .args .work .now) f _ (c .before .work-room .ensures)))
+slice-aggregate-compute-left-env c = sym (part (c .before) .whole)
 
 compute-left-env-requires : tie.Need-compute-left-env-requires
-compute-left-env-requires c κs = let f = walk-fits (c .before .before .before .before .before .before .before .args .chain) (c .before .before .before .before .before .before .before .args .store .now) (c .before .before .before .before .before .before .before .args .work .now) (c .before .before .before .before .before .before .before .args .out .now) (leb (c .before .before .before .before .before .before .before .args .chain .«num_qubits») (c .before .before .before .before .before .before .before .args .from) || ltb (c .before .before .before .before .before .before .before .args .chain .«num_qubits») (c .before .before .before .before .before .before .before .args .site)) _ (c .before .before .before .walk-refusal .ensures) (c .before .before .if1 .left) in let i = neither (leb (c .before .before .before .before .before .before .before .args .chain .«num_qubits») (c .before .before .before .before .before .before .before .args .from)) (ltb (c .before .before .before .before .before .before .before .args .chain .«num_qubits») (c .before .before .before .before .before .before .before .args .site)) (walk-inside (c .before .before .before .before .before .before .before .args .chain) (c .before .before .before .before .before .before .before .args .store .now) (c .before .before .before .before .before .before .before .args .work .now) (c .before .before .before .before .before .before .before .args .out .now) (leb (c .before .before .before .before .before .before .before .args .chain .«num_qubits») (c .before .before .before .before .before .before .before .args .from) || ltb (c .before .before .before .before .before .before .before .args .chain .«num_qubits») (c .before .before .before .before .before .before .before .args .site)) _ (c .before .before .before .walk-refusal .ensures) (c .before .before .if1 .left)) in let end = leb-false (c .before .before .before .before .before .before .before .args .chain .«num_qubits») (c .before .before .before .before .before .before .before .args .from) (i .0) in let at = ltb-false (c .before .before .before .before .before .before .before .args .chain .«num_qubits») (c .before .before .before .before .before .before .before .args .site) (i .1) in (walkable (c .before .before .before .before .before .before .before .args .chain) (c .before .before .before .before .before .before .before .args .store .now) (c .before .before .before .before .before .before .before .args .work .now) f _ (c .before .work-room .ensures), (end, at))
+compute-left-env-requires c κs = let g = accepted (c .before .before) in (part (c .before) .walkable, (g .end-below, g .site-within))
 
 write-environment-requires : tie.Need-write-environment-requires
-write-environment-requires c κs = let f = walk-fits (c .before .before .before .before .before .before .before .before .before .before .before .before .args .chain) (c .before .before .before .before .before .before .before .before .before .before .before .before .args .store .now) (c .before .before .before .before .before .before .before .before .before .before .before .before .args .work .now) (c .before .before .before .before .before .before .before .before .before .before .before .before .args .out .now) (leb (c .before .before .before .before .before .before .before .before .before .before .before .before .args .chain .«num_qubits») (c .before .before .before .before .before .before .before .before .before .before .before .before .args .from) || ltb (c .before .before .before .before .before .before .before .before .before .before .before .before .args .chain .«num_qubits») (c .before .before .before .before .before .before .before .before .before .before .before .before .args .site)) _ (c .before .before .before .before .before .before .before .before .walk-refusal .ensures) (c .before .before .before .before .before .before .before .if1 .left) in let i = neither (leb (c .before .before .before .before .before .before .before .before .before .before .before .before .args .chain .«num_qubits») (c .before .before .before .before .before .before .before .before .before .before .before .before .args .from)) (ltb (c .before .before .before .before .before .before .before .before .before .before .before .before .args .chain .«num_qubits») (c .before .before .before .before .before .before .before .before .before .before .before .before .args .site)) (walk-inside (c .before .before .before .before .before .before .before .before .before .before .before .before .args .chain) (c .before .before .before .before .before .before .before .before .before .before .before .before .args .store .now) (c .before .before .before .before .before .before .before .before .before .before .before .before .args .work .now) (c .before .before .before .before .before .before .before .before .before .before .before .before .args .out .now) (leb (c .before .before .before .before .before .before .before .before .before .before .before .before .args .chain .«num_qubits») (c .before .before .before .before .before .before .before .before .before .before .before .before .args .from) || ltb (c .before .before .before .before .before .before .before .before .before .before .before .before .args .chain .«num_qubits») (c .before .before .before .before .before .before .before .before .before .before .before .before .args .site)) _ (c .before .before .before .before .before .before .before .before .walk-refusal .ensures) (c .before .before .before .before .before .before .before .if1 .left)) in let end = leb-false (c .before .before .before .before .before .before .before .before .before .before .before .before .args .chain .«num_qubits») (c .before .before .before .before .before .before .before .before .before .before .before .before .args .from) (i .0) in let at = ltb-false (c .before .before .before .before .before .before .before .before .before .before .before .before .args .chain .«num_qubits») (c .before .before .before .before .before .before .before .before .before .before .before .before .args .site) (i .1) in let most = leftEnv-squared (held (c .before .before .before .before .before .before .before .before .before .before .before .before .args .chain) (c .before .before .before .before .before .before .before .before .before .before .before .before .args .store .now)) (f .sound) (c .before .before .before .before .before .before .before .before .before .before .before .before .args .from) (c .before .before .before .before .before .before .before .before .before .before .before .before .args .site) end at .most in
-    let m : c .before .before .before .before .compute-left-env .result ≤ c .before .before .before .before .before .before .before .before .before .before .before .before .args .chain .«max_bond_dim» = omega (arith, most, c .before .before .before .before .compute-left-env .ensures .0) in
-    let q = mul-le-mul m m in
-    let cap = f .sound .settings .cap .1 in
-    let out = result-fits (c .before .before .before .before .before .before .before .before .before .before .before .before .args .chain) (c .before .before .before .before .before .before .before .before .before .before .before .before .args .store .now) (c .before .before .before .before .before .before .before .before .before .before .before .before .args .work .now) (c .before .before .before .before .before .before .before .before .before .before .before .before .args .out .now) (leb (c .before .before .before .before .before .before .before .before .before .before .before .before .args .chain .«num_qubits») (c .before .before .before .before .before .before .before .before .before .before .before .before .args .from) || ltb (c .before .before .before .before .before .before .before .before .before .before .before .before .args .chain .«num_qubits») (c .before .before .before .before .before .before .before .before .before .before .before .before .args .site)) _ (c .before .before .before .before .before .before .before .before .walk-refusal .ensures) (c .before .before .before .before .before .before .before .if1 .left) in
-    let room = room-again (c .before .before .before .before .before .before .before .before .before .before .before .before .args .chain) (c .before .before .before .before .before .before .before .before .before .before .before .before .args .store .now) (c .before .before .before .before .before .before .before .before .before .before .before .before .args .work .now) f _ (c .before .before .before .before .before .before .work-room .ensures) (c .before .before .before .before .compute-left-env .last .1 .1 .0) (c .before .before .before .before .compute-left-env .kept .1 .1 .0) in
-    (omega (arith, m, cap), omega (arith, q, out), omega (arith, q, room, c .before .before .before .before .before .before .work-room .ensures))
+write-environment-requires c κs =
+    let e = c .before .before .before .before in
+    let w = e .before .before in
+    let r = e .compute-left-env in
+    entries-fit (accepted (w .before)) (part w) (r .result) (most e) (r .last .1 .1 .0) (r .kept .1 .1 .0)
 
 slice-relend-prefix-fill-zero : tie.Need-slice-relend-prefix-fill-zero
-slice-relend-prefix-fill-zero c = let f = walk-fits (c .before .before .before .before .before .before .before .before .before .before .before .before .before .before .before .args .chain) (c .before .before .before .before .before .before .before .before .before .before .before .before .before .before .before .args .store .now) (c .before .before .before .before .before .before .before .before .before .before .before .before .before .before .before .args .work .now) (c .before .before .before .before .before .before .before .before .before .before .before .before .before .before .before .args .out .now) (leb (c .before .before .before .before .before .before .before .before .before .before .before .before .before .before .before .args .chain .«num_qubits») (c .before .before .before .before .before .before .before .before .before .before .before .before .before .before .before .args .from) || ltb (c .before .before .before .before .before .before .before .before .before .before .before .before .before .before .before .args .chain .«num_qubits») (c .before .before .before .before .before .before .before .before .before .before .before .before .before .before .before .args .site)) _ (c .before .before .before .before .before .before .before .before .before .before .before .walk-refusal .ensures) (c .before .before .before .before .before .before .before .before .before .before .if1 .left) in room-again (c .before .before .before .before .before .before .before .before .before .before .before .before .before .before .before .args .chain) (c .before .before .before .before .before .before .before .before .before .before .before .before .before .before .before .args .store .now) (c .before .before .before .before .before .before .before .before .before .before .before .before .before .before .before .args .work .now) f _ (c .before .before .before .before .before .before .before .before .before .work-room .ensures) (c .before .before .before .before .before .before .before .compute-left-env .last .1 .1 .0) (c .before .before .before .before .before .before .before .compute-left-env .kept .1 .1 .0)
+slice-relend-prefix-fill-zero c =
+    let r = c .before .before .before .before .before .before .before .compute-left-env in
+    part (c .before .before .before .before .before .before .before .before .before) .again (r .last .1 .1 .0) (r .kept .1 .1 .0)
 
 slice-aggregate-fill-zero : tie.Need-slice-aggregate-fill-zero
-slice-aggregate-fill-zero c = let f = walk-fits (c .before .before .before .before .before .before .before .before .before .before .before .before .before .before .before .before .args .chain) (c .before .before .before .before .before .before .before .before .before .before .before .before .before .before .before .before .args .store .now) (c .before .before .before .before .before .before .before .before .before .before .before .before .before .before .before .before .args .work .now) (c .before .before .before .before .before .before .before .before .before .before .before .before .before .before .before .before .args .out .now) (leb (c .before .before .before .before .before .before .before .before .before .before .before .before .before .before .before .before .args .chain .«num_qubits») (c .before .before .before .before .before .before .before .before .before .before .before .before .before .before .before .before .args .from) || ltb (c .before .before .before .before .before .before .before .before .before .before .before .before .before .before .before .before .args .chain .«num_qubits») (c .before .before .before .before .before .before .before .before .before .before .before .before .before .before .before .before .args .site)) _ (c .before .before .before .before .before .before .before .before .before .before .before .before .walk-refusal .ensures) (c .before .before .before .before .before .before .before .before .before .before .before .if1 .left) in sym (length-take-le _ _ (room-again (c .before .before .before .before .before .before .before .before .before .before .before .before .before .before .before .before .args .chain) (c .before .before .before .before .before .before .before .before .before .before .before .before .before .before .before .before .args .store .now) (c .before .before .before .before .before .before .before .before .before .before .before .before .before .before .before .before .args .work .now) f _ (c .before .before .before .before .before .before .before .before .before .before .work-room .ensures) (c .before .before .before .before .before .before .before .before .compute-left-env .last .1 .1 .0) (c .before .before .before .before .before .before .before .before .compute-left-env .kept .1 .1 .0)))
+slice-aggregate-fill-zero c =
+    let r = c .before .before .before .before .before .before .before .before .compute-left-env in
+    sym (length-take-le _ _ (part (c .before .before .before .before .before .before .before .before .before .before) .again (r .last .1 .1 .0) (r .kept .1 .1 .0)))
 
 fill-zero-requires : tie.Need-fill-zero-requires
 fill-zero-requires c κs = search needs
@@ -64,8 +78,17 @@ same-length-2 c = search needs
 
 returns-2 : tie.Need-returns-2
 unfolding leftEnvironmentCall
-returns-2 c = let f = walk-fits (c .before .before .before .before .before .before .before .before .before .before .before .before .before .before .before .before .before .before .before .args .chain) (c .before .before .before .before .before .before .before .before .before .before .before .before .before .before .before .before .before .before .before .args .store .now) (c .before .before .before .before .before .before .before .before .before .before .before .before .before .before .before .before .before .before .before .args .work .now) (c .before .before .before .before .before .before .before .before .before .before .before .before .before .before .before .before .before .before .before .args .out .now) (leb (c .before .before .before .before .before .before .before .before .before .before .before .before .before .before .before .before .before .before .before .args .chain .«num_qubits») (c .before .before .before .before .before .before .before .before .before .before .before .before .before .before .before .before .before .before .before .args .from) || ltb (c .before .before .before .before .before .before .before .before .before .before .before .before .before .before .before .before .before .before .before .args .chain .«num_qubits») (c .before .before .before .before .before .before .before .before .before .before .before .before .before .before .before .before .before .before .before .args .site)) _ (c .before .before .before .before .before .before .before .before .before .before .before .before .before .before .before .walk-refusal .ensures) (c .before .before .before .before .before .before .before .before .before .before .before .before .before .before .if1 .left) in let i = neither (leb (c .before .before .before .before .before .before .before .before .before .before .before .before .before .before .before .before .before .before .before .args .chain .«num_qubits») (c .before .before .before .before .before .before .before .before .before .before .before .before .before .before .before .before .before .before .before .args .from)) (ltb (c .before .before .before .before .before .before .before .before .before .before .before .before .before .before .before .before .before .before .before .args .chain .«num_qubits») (c .before .before .before .before .before .before .before .before .before .before .before .before .before .before .before .before .before .before .before .args .site)) (walk-inside (c .before .before .before .before .before .before .before .before .before .before .before .before .before .before .before .before .before .before .before .args .chain) (c .before .before .before .before .before .before .before .before .before .before .before .before .before .before .before .before .before .before .before .args .store .now) (c .before .before .before .before .before .before .before .before .before .before .before .before .before .before .before .before .before .before .before .args .work .now) (c .before .before .before .before .before .before .before .before .before .before .before .before .before .before .before .before .before .before .before .args .out .now) (leb (c .before .before .before .before .before .before .before .before .before .before .before .before .before .before .before .before .before .before .before .args .chain .«num_qubits») (c .before .before .before .before .before .before .before .before .before .before .before .before .before .before .before .before .before .before .before .args .from) || ltb (c .before .before .before .before .before .before .before .before .before .before .before .before .before .before .before .before .before .before .before .args .chain .«num_qubits») (c .before .before .before .before .before .before .before .before .before .before .before .before .before .before .before .before .before .before .before .args .site)) _ (c .before .before .before .before .before .before .before .before .before .before .before .before .before .before .before .walk-refusal .ensures) (c .before .before .before .before .before .before .before .before .before .before .before .before .before .before .if1 .left)) in let end = leb-false (c .before .before .before .before .before .before .before .before .before .before .before .before .before .before .before .before .before .before .before .args .chain .«num_qubits») (c .before .before .before .before .before .before .before .before .before .before .before .before .before .before .before .before .before .before .before .args .from) (i .0) in let at = ltb-false (c .before .before .before .before .before .before .before .before .before .before .before .before .before .before .before .before .before .before .before .args .chain .«num_qubits») (c .before .before .before .before .before .before .before .before .before .before .before .before .before .before .before .before .before .before .before .args .site) (i .1) in let most = leftEnv-squared (held (c .before .before .before .before .before .before .before .before .before .before .before .before .before .before .before .before .before .before .before .args .chain) (c .before .before .before .before .before .before .before .before .before .before .before .before .before .before .before .before .before .before .before .args .store .now)) (f .sound) (c .before .before .before .before .before .before .before .before .before .before .before .before .before .before .before .before .before .before .before .args .from) (c .before .before .before .before .before .before .before .before .before .before .before .before .before .before .before .before .before .before .before .args .site) end at .most in
-    walk-ends (held (c .before .before .before .before .before .before .before .before .before .before .before .before .before .before .before .before .before .before .before .args .chain) (c .before .before .before .before .before .before .before .before .before .before .before .before .before .before .before .before .before .before .before .args .store .now)) (c .before .before .before .before .before .before .before .before .before .before .before .before .before .before .before .before .before .before .before .args .work .now) (c .before .before .before .before .before .before .before .before .before .before .before .before .before .before .before .before .before .before .before .args .out .now) (c .before .before .before .before .before .before .before .before .before .before .before .before .before .before .before .before .before .before .before .args .from) (c .before .before .before .before .before .before .before .before .before .before .before .before .before .before .before .before .before .before .before .args .site) (leftEnv (c .before .before .before .before .before .before .before .before .before .before .before .before .before .before .before .before .before .before .before .args .from) (c .before .before .before .before .before .before .before .before .before .before .before .before .before .before .before .before .before .before .before .args .site) (held (c .before .before .before .before .before .before .before .before .before .before .before .before .before .before .before .before .before .before .before .args .chain) (c .before .before .before .before .before .before .before .before .before .before .before .before .before .before .before .before .before .before .before .args .store .now))) _ (c .before .before .before .before .before .before .before .before .before .before .before .before .before .before .before .walk-refusal .ensures) _ _ _ _ (c .before .before .before .before .before .before .before .before .before .before .before .before .before .before .if1 .left) (c .before .before .before .before .before .before .before .before .before .before .before .compute-left-env .ensures .0) (c .before .before .before .before .before .before .before .before .before .before .before .compute-left-env .ensures .1) (cleared-after (c .before .before .before .before .before .before .before .before .before .before .before .before .before .before .before .before .before .before .before .args .chain) (c .before .before .before .before .before .before .before .before .before .before .before .before .before .before .before .before .before .before .before .args .store .now) (c .before .before .before .before .before .before .before .before .before .before .before .before .before .before .before .before .before .before .before .args .work .now) f _ (c .before .before .before .before .before .before .before .before .before .before .before .before .before .work-room .ensures) (c .before .before .before .before .before .before .before .before .before .before .before .compute-left-env .last .1 .1 .0) (c .before .before .before .before .before .before .before .before .before .before .before .compute-left-env .kept .1 .1 .0) (c .before .before .fill-zero .last .0) (c .before .before .fill-zero .ensures)) (c .before .before .before .before .before .before .write-environment .ensures ∙ written-entries (c .before .before .before .before .before .before .before .before .before .before .before .compute-left-env .result) (c .before .before .before .before .before .before .before .before .before .before .before .before .before .before .before .before .before .before .before .args .chain .«max_bond_dim») (c .before .before .before .before .before .before .before .before .before .before .before .compute-left-env .last .1 .1 .0) (drop (c .before .before .before .before .before .before .before .before .before .before .before .before .before .work-room .result) (c .before .before .before .before .before .before .before .before .before .before .before .before .before .before .before .before .before .before .before .args .work .now)) (c .before .before .before .before .before .before .before .before .before .before .before .before .before .before .before .before .before .before .before .args .out .now) (omega (arith, most, c .before .before .before .before .before .before .before .before .before .before .before .compute-left-env .ensures .0)) (c .before .before .before .before .before .before .before .before .before .before .before .compute-left-env .kept .1 .1 .0 ∙ lent-length (c .before .before .before .before .before .before .before .before .before .before .before .before .before .before .before .before .before .before .before .args .chain) (c .before .before .before .before .before .before .before .before .before .before .before .before .before .before .before .before .before .before .before .args .store .now) (c .before .before .before .before .before .before .before .before .before .before .before .before .before .before .before .before .before .before .before .args .work .now) f _ (c .before .before .before .before .before .before .before .before .before .before .before .before .before .work-room .ensures) ∙ c .before .before .before .before .before .before .before .before .before .before .before .before .before .work-room .ensures))
+returns-2 c =
+    let e = c .before .before .before .before .before .before .before .before .before .before .before in
+    let w = e .before .before in
+    let r = e .compute-left-env in
+    let z = c .before .before .fill-zero in
+    let left = part w .clear (r .last .1 .1 .0) (z .last .0) (r .kept .1 .1 .0) (z .ensures) in
+    let result = c .before .before .before .before .before .before .write-environment .ensures
+    ∙ written-entries (accepted (w .before)) (part w) (r .result) (most e) (r .last .1 .1 .0) (r .kept .1 .1 .0) in
+    let a = w .before .before .before .before .before .before .args in
+    let s = held (a .chain) (a .store .now) in
+    walk-ends s _ _ (a .from) (a .site) (leftEnv (a .from) (a .site) s) _ (w .before .before .walk-refusal .ensures) _ _ _ _ (w .before .if1 .left) (r .ensures .0) (r .ensures .1) left result
 
 pub left-environment-spec : {M : Type 1} → statement M
 left-environment-spec =
