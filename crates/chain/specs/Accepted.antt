@@ -114,7 +114,8 @@ module _ {s : State} {work out : List Float} {end site room : ℕ} (w : Accepted
       let square = mul-le-mul most most in
       (omega (arith, most, w .sound .settings .cap .1), omega (arith, square, w .result), omega (arith, square, p .again used l, p .size))
 
-  pub written-entries : take (2 * (dim * dim)) (used ++ drop room work) ++ drop (2 * (dim * dim)) out ≡ take (2 * (dim * dim)) used ++ drop (length (take (2 * (dim * dim)) used)) out
-  written-entries =
+  pub written-entries : (result : List Float) → result ≡ take (2 * (dim * dim)) (used ++ drop room work) ++ drop (2 * (dim * dim)) out
+      → result ≡ take (2 * (dim * dim)) used ++ drop (length (take (2 * (dim * dim)) used)) out
+  written-entries result e =
       let n : 2 * (dim * dim) ≤ length used = omega (arith, mul-le-mul most most, l, p .whole, p .size) in
-      rw (take-append-le (2 * (dim * dim)) used (drop room work) n, length-take-le (2 * (dim * dim)) used n)
+      rw (e, take-append-le (2 * (dim * dim)) used (drop room work) n, length-take-le (2 * (dim * dim)) used n)

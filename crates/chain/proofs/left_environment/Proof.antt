@@ -1,5 +1,5 @@
 -- Refused under the first number that holds, or else walked at the front of the work slice and written to the result slice.
-use mathlib.Core.Path.{sym, _∙_}
+use mathlib.Core.Path.{sym}
 use Prim.Native.Nat.{_≤_}
 use native.Mathlib.Omega.{arith}
 use lib.Seq.{length-take-le}
@@ -84,8 +84,8 @@ returns-2 c =
     let r = e .compute-left-env in
     let z = c .before .before .fill-zero in
     let left = part w .clear (r .last .1 .1 .0) (z .last .0) (r .kept .1 .1 .0) (z .ensures) in
-    let result = c .before .before .before .before .before .before .write-environment .ensures
-    ∙ written-entries (accepted (w .before)) (part w) (r .result) (most e) (r .last .1 .1 .0) (r .kept .1 .1 .0) in
+    let out = c .before .before .before .before .before .before .write-environment .ensures in
+    let result = written-entries (accepted (w .before)) (part w) (r .result) (most e) (r .last .1 .1 .0) (r .kept .1 .1 .0) _ out in
     let a = w .before .before .before .before .before .before .args in
     let s = held (a .chain) (a .store .now) in
     walk-ends s _ _ (a .from) (a .site) (leftEnv (a .from) (a .site) s) _ (w .before .before .walk-refusal .ensures) _ _ _ _ (w .before .if1 .left) (r .ensures .0) (r .ensures .1) left result
