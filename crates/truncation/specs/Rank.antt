@@ -2,7 +2,7 @@
 use mathlib.Core.Path.{_≡_, refl}
 use mathlib.Core.Bool.{Bool, true, false, cond}
 use mathlib.Core.List.{List, [], _∷_}
-use Prim.Native.Nat.{ℕ, zero, suc, _+_, _≤_, _<_, min, max}
+use Prim.Native.Nat.{ℕ, zero, suc, _+_, _≤_, _<_}
 use native.Mathlib.Nat.{not-suc-le-zero}
 use native.Mathlib.Numerals.{add-one}
 use native.Mathlib.Omega.{arith}
@@ -27,7 +27,7 @@ leading-none b [] (suc k) h = refl
 leading-none b (x ∷ s) zero h = absurd (not-suc-le-zero h)
 leading-none b (x ∷ s) (suc k) h = leading-none b s k (omega arith)
 
--- ---- a rank is at most the cap, at least 1, and at most the number of values
+-- ---- a rank is at most the number of values
 
 pub leading-within : (b : Float) (s : List Float) → leading b s ≤ length s
 leading-within b [] = omega arith
@@ -37,15 +37,6 @@ leading-within b (x ∷ s) = counted (lt b x) (leading b s) (length s) (leading-
     counted true n m h = omega arith
     counted false n m h = omega arith
 
-module _ (epsilon : Float) (cap : ℕ) (s : List Float) where
-  pub rank-capped : rank epsilon cap s ≤ cap
-  unfolding rank
-  rank-capped = omega arith
-
-  pub rank-some : 0 < cap → 0 < rank epsilon cap s
-  unfolding rank
-  rank-some h = omega arith
-
-  pub rank-within : 0 < length s → rank epsilon cap s ≤ length s
-  unfolding rank
-  rank-within h = omega (arith, leading-within (mul binary64 epsilon (getD s 0 zeroF)) s)
+pub rank-within : (epsilon : Float) (cap : ℕ) (s : List Float) → 0 < length s → rank epsilon cap s ≤ length s
+unfolding rank
+rank-within epsilon cap s h = omega (arith, leading-within (mul binary64 epsilon (getD s 0 zeroF)) s)

@@ -1,11 +1,12 @@
-// What a cut keeps of its singular values, given in order, and the weight that it records as discarded.
+// What a cut keeps of its singular values, given in order, and the share of the weight that it drops.
 use columns::larger;
 use columns::smaller;
 ghost use mathlib.Core.Path.{_≡_};
 ghost use Prim.Native.Nat.{_≤_};
 ghost use lib.ListN.{length, getD};
 ghost use Rattle.complex.specs.Complex.{zeroF};
-ghost use Rattle.model.specs.Truncation.{leading, rank, resolvable, squaresFrom, share, recorded};
+ghost use Rattle.model.specs.Truncation.{leading, rank, resolvable, squaresFrom, share};
+ghost use Rattle.truncation.specs.Shares.{sharesOf};
 
 // 4 * 2^-52, the part of the largest value under which a dropped value counts as rounding.
 const SVD_RESOLUTION: f64 = 8.881784197001252e-16;
@@ -65,16 +66,22 @@ fn sum_squares_from(s: &[f64], from: usize) -> f64
     sum
 }
 
-// The weight discarded before, with the share added that keeping chi_kept values drops.
-pub fn record_truncation(s: &[f64], chi_kept: usize, discarded: f64) -> f64
-    ensures { λ r. ⌜ r ≡ recorded discarded (share (now (s .entry)) «chi_kept») ⌝ }
+// The share of the weight that a cut drops, if there is one.
+pub enum Share {
+    Nothing,
+    Of(f64),
+}
+
+// The share that keeping chi_kept values drops; nothing where none is dropped or the total is at most 0.
+pub fn discarded_share(s: &[f64], chi_kept: usize) -> Share
+    ensures { λ r. ⌜ sharesOf r ≡ share (now (s .entry)) «chi_kept» ⌝ }
 {
     if chi_kept >= s.len() {
-        return discarded;
+        return Share::Nothing;
     }
     let total = sum_squares_from(s, 0);
     if total <= 0.0 {
-        return discarded;
+        return Share::Nothing;
     }
-    discarded + sum_squares_from(s, chi_kept) / total
+    Share::Of(sum_squares_from(s, chi_kept) / total)
 }

@@ -1,8 +1,8 @@
 use native.Mathlib.Omega.{arith}
 use borrow.Author.Tests.{le-leb, lt-leb}
 use Rattle.model.specs.Truncation.{share}
-use Rattle.truncation.proofs.record_truncation.Statement.{statement}
-use Rattle.truncation.proofs.record_truncation.Tie as tie
+use Rattle.truncation.proofs.discarded_share.Statement.{statement}
+use Rattle.truncation.proofs.discarded_share.Tie as tie
 
 returns : tie.Need-returns
 unfolding share
@@ -22,7 +22,7 @@ returns-3 : tie.Need-returns-3
 unfolding share
 returns-3 c = rw (lt-leb _ _ (c .before .before .before .if1 .left), ← c .before .before .sum-squares-from .ensures, c .before .if2 .left, ← c .sum-squares-from2 .ensures)
 
-pub record-truncation-spec : {M : Type 1} → statement M
-record-truncation-spec =
+pub discarded-share-spec : {M : Type 1} → statement M
+discarded-share-spec =
     tie.close
     (tie.spec returns sum-squares-from-requires returns-2 sum-squares-from-requires-2 returns-3)
