@@ -1,5 +1,5 @@
 // The ways to write a site's slot: from the factors of a cut, and from those of a QR step. What is left of the slot becomes +0.
-// Column g of a factor stands in w from number base + order[g] * stride on, and its value is number vals + order[g].
+// Column g of a factor f stands in w from number f.base + order[g] * f.stride on, and its value is number vals + order[g].
 use columns::clear_from;
 use columns::conj_row;
 use columns::gather;
@@ -19,20 +19,20 @@ ghost use Rattle.model.specs.Slots.{filled};
 ghost use Rattle.model.specs.Pair.{isometrySite, scaledSite, vtSite, scaledVtSite};
 ghost use Rattle.fills.specs.Factors.{ColumnsIn, ValuesIn, columnOf, rowOf, valueOf};
 
+// Where a factor of a decomposition stands among its numbers: its first number, and how many a column has.
+pub struct Factor {
+    pub base: usize,
+    pub stride: usize,
+}
+
 // ---- the left site: row r has an element of each column
 
-fn isometry_row(
-    out: &mut [f64],
-    w: &[f64],
-    order: &[u8],
-    base: usize,
-    stride: usize,
-    r: usize,
-    chi: usize,
-)
-    requires { ⌜ (length (now out) ≡ 2 * chi) × (chi ≤ length (now order)) × (r < stride) × ColumnsIn (now w) (now order) base stride chi ⌝ }
-    ensures { λ _. ⌜ now (out .exit) ≡ numbers chi (λ g. columnOf (now (w .entry)) (now (order .entry)) base stride r g) ⌝ }
+fn isometry_row(out: &mut [f64], w: &[f64], order: &[u8], f: Factor, r: usize, chi: usize)
+    requires { ⌜ (length (now out) ≡ 2 * chi) × (chi ≤ length (now order)) × (r < f .stride) × ColumnsIn (now w) (now order) f chi ⌝ }
+    ensures { λ _. ⌜ now (out .exit) ≡ numbers chi (λ g. columnOf (now (w .entry)) (now (order .entry)) f r g) ⌝ }
 {
+    let base = f.base;
+    let stride = f.stride;
     for g in 0..chi {
         let column = wide(order[g]);
         set_complex(out, g, complex_at(w, base + (column * stride + r)));
@@ -44,20 +44,19 @@ pub fn fill_isometry_site_data(
     slot: &mut [f64],
     w: &[f64],
     order: &[u8],
-    base: usize,
-    stride: usize,
+    f: Factor,
     bl: usize,
     chi: usize,
 )
-    requires { ⌜ (bl ≤ 128) × (chi ≤ 256) × (2 * (2 * bl * chi) ≤ length (now slot)) × (chi ≤ length (now order)) × (2 * bl ≤ stride) × ColumnsIn (now w) (now order) base stride chi ⌝ }
-    ensures { λ _. ⌜ now (slot .exit) ≡ filled (length (now (slot .entry))) (isometrySite bl chi (columnOf (now (w .entry)) (now (order .entry)) base stride)) ⌝ }
+    requires { ⌜ (bl ≤ 128) × (chi ≤ 256) × (2 * (2 * bl * chi) ≤ length (now slot)) × (chi ≤ length (now order)) × (2 * bl ≤ f .stride) × ColumnsIn (now w) (now order) f chi ⌝ }
+    ensures { λ _. ⌜ now (slot .exit) ≡ filled (length (now (slot .entry))) (isometrySite bl chi (columnOf (now (w .entry)) (now (order .entry)) f)) ⌝ }
 {
     let high = 2 * bl;
     let size = 2 * chi;
     for r in 0..high {
         let a = r * size;
         let e = a + size;
-        isometry_row(&mut slot[a..e], w, order, base, stride, r, chi);
+        isometry_row(&mut slot[a..e], w, order, f, r, chi);
     }
     clear_from(slot, high * size);
 }
@@ -66,15 +65,16 @@ fn scaled_row(
     out: &mut [f64],
     w: &[f64],
     order: &[u8],
-    base: usize,
-    stride: usize,
+    f: Factor,
     vals: usize,
     r: usize,
     chi: usize,
 )
-    requires { ⌜ (length (now out) ≡ 2 * chi) × (chi ≤ length (now order)) × (r < stride) × ColumnsIn (now w) (now order) base stride chi × ValuesIn (now w) (now order) vals chi ⌝ }
-    ensures { λ _. ⌜ now (out .exit) ≡ numbers chi (λ g. scaleC (columnOf (now (w .entry)) (now (order .entry)) base stride r g) (valueOf (now (w .entry)) (now (order .entry)) vals g)) ⌝ }
+    requires { ⌜ (length (now out) ≡ 2 * chi) × (chi ≤ length (now order)) × (r < f .stride) × ColumnsIn (now w) (now order) f chi × ValuesIn (now w) (now order) vals chi ⌝ }
+    ensures { λ _. ⌜ now (out .exit) ≡ numbers chi (λ g. scaleC (columnOf (now (w .entry)) (now (order .entry)) f r g) (valueOf (now (w .entry)) (now (order .entry)) vals g)) ⌝ }
 {
+    let base = f.base;
+    let stride = f.stride;
     for g in 0..chi {
         let column = wide(order[g]);
         let x = complex_at(w, base + (column * stride + r));
@@ -88,21 +88,20 @@ pub fn fill_scaled_u_site_data(
     slot: &mut [f64],
     w: &[f64],
     order: &[u8],
-    base: usize,
-    stride: usize,
+    f: Factor,
     vals: usize,
     bl: usize,
     chi: usize,
 )
-    requires { ⌜ (bl ≤ 128) × (chi ≤ 256) × (2 * (2 * bl * chi) ≤ length (now slot)) × (chi ≤ length (now order)) × (2 * bl ≤ stride) × ColumnsIn (now w) (now order) base stride chi × ValuesIn (now w) (now order) vals chi ⌝ }
-    ensures { λ _. ⌜ now (slot .exit) ≡ filled (length (now (slot .entry))) (scaledSite bl chi (columnOf (now (w .entry)) (now (order .entry)) base stride) (valueOf (now (w .entry)) (now (order .entry)) vals)) ⌝ }
+    requires { ⌜ (bl ≤ 128) × (chi ≤ 256) × (2 * (2 * bl * chi) ≤ length (now slot)) × (chi ≤ length (now order)) × (2 * bl ≤ f .stride) × ColumnsIn (now w) (now order) f chi × ValuesIn (now w) (now order) vals chi ⌝ }
+    ensures { λ _. ⌜ now (slot .exit) ≡ filled (length (now (slot .entry))) (scaledSite bl chi (columnOf (now (w .entry)) (now (order .entry)) f) (valueOf (now (w .entry)) (now (order .entry)) vals)) ⌝ }
 {
     let high = 2 * bl;
     let size = 2 * chi;
     for r in 0..high {
         let a = r * size;
         let e = a + size;
-        scaled_row(&mut slot[a..e], w, order, base, stride, vals, r, chi);
+        scaled_row(&mut slot[a..e], w, order, f, vals, r, chi);
     }
     clear_from(slot, high * size);
 }
@@ -129,14 +128,15 @@ pub fn fill_vt_site_data(
     slot: &mut [f64],
     w: &[f64],
     order: &[u8],
-    base: usize,
-    stride: usize,
+    f: Factor,
     chi: usize,
     br: usize,
 )
-    requires { ⌜ (chi ≤ 256) × (br ≤ 128) × (2 * (chi * (2 * br)) ≤ length (now slot)) × (chi ≤ length (now order)) × (2 * br ≤ stride) × ColumnsIn (now w) (now order) base stride chi ⌝ }
-    ensures { λ _. ⌜ now (slot .exit) ≡ filled (length (now (slot .entry))) (vtSite chi br (rowOf (now (w .entry)) (now (order .entry)) base stride)) ⌝ }
+    requires { ⌜ (chi ≤ 256) × (br ≤ 128) × (2 * (chi * (2 * br)) ≤ length (now slot)) × (chi ≤ length (now order)) × (2 * br ≤ f .stride) × ColumnsIn (now w) (now order) f chi ⌝ }
+    ensures { λ _. ⌜ now (slot .exit) ≡ filled (length (now (slot .entry))) (vtSite chi br (rowOf (now (w .entry)) (now (order .entry)) f)) ⌝ }
 {
+    let base = f.base;
+    let stride = f.stride;
     let n = 2 * br;
     let size = 2 * n;
     for g in 0..chi {
@@ -165,15 +165,16 @@ pub fn fill_scaled_vt_data(
     slot: &mut [f64],
     w: &[f64],
     order: &[u8],
-    base: usize,
-    stride: usize,
+    f: Factor,
     vals: usize,
     chi: usize,
     br: usize,
 )
-    requires { ⌜ (chi ≤ 256) × (br ≤ 128) × (2 * (chi * (2 * br)) ≤ length (now slot)) × (chi ≤ length (now order)) × (2 * br ≤ stride) × ColumnsIn (now w) (now order) base stride chi × ValuesIn (now w) (now order) vals chi ⌝ }
-    ensures { λ _. ⌜ now (slot .exit) ≡ filled (length (now (slot .entry))) (scaledVtSite chi br (rowOf (now (w .entry)) (now (order .entry)) base stride) (valueOf (now (w .entry)) (now (order .entry)) vals)) ⌝ }
+    requires { ⌜ (chi ≤ 256) × (br ≤ 128) × (2 * (chi * (2 * br)) ≤ length (now slot)) × (chi ≤ length (now order)) × (2 * br ≤ f .stride) × ColumnsIn (now w) (now order) f chi × ValuesIn (now w) (now order) vals chi ⌝ }
+    ensures { λ _. ⌜ now (slot .exit) ≡ filled (length (now (slot .entry))) (scaledVtSite chi br (rowOf (now (w .entry)) (now (order .entry)) f) (valueOf (now (w .entry)) (now (order .entry)) vals)) ⌝ }
 {
+    let base = f.base;
+    let stride = f.stride;
     let n = 2 * br;
     let size = 2 * n;
     for g in 0..chi {

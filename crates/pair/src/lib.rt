@@ -14,6 +14,13 @@ ghost use Rattle.complex.specs.Numbers.{count};
 ghost use Rattle.model.specs.Pair.{gatedTheta, matrixOf, adjointOf};
 ghost use Rattle.pair.specs.Blocks.{grown, dotsOf, mixOf, mixedOf, conjugated, gatedBlock, stored, line, straightPlace, adjointPlace, adjoint};
 
+// The bonds of a pair of neighbours: left of it, between its sites, right of it.
+pub struct Bonds {
+    pub left: usize,
+    pub mid: usize,
+    pub right: usize,
+}
+
 // The elements (i, j) = (0, 0), (0, 1), (1, 0) and (1, 1) of one a and one b.
 pub struct Block {
     pub e00: Complex,
@@ -40,20 +47,20 @@ fn grow(t: Block, x0: Complex, x1: Complex, y0: Complex, y1: Complex) -> Block
     }
 }
 
-// Four sums over g < n: of left's number l0 + g or l1 + g times right's number g * step + r0 or g * step + r1.
+// Four sums over g < n: of left's number l0 + g or l0 + n + g times right's number g * step + r0 or g * step + r1.
 fn dots(
     left: &[f64],
     l0: usize,
-    l1: usize,
     right: &[f64],
     step: usize,
     r0: usize,
     r1: usize,
     n: usize,
 ) -> Block
-    requires { ⌜ (l0 + n ≤ count (now left)) × (l1 + n ≤ count (now left)) × (r0 < step) × (r1 < step) × (n * step ≤ count (now right)) ⌝ }
-    ensures { λ r. ⌜ r ≡ dotsOf (now (left .entry)) l0 l1 (now (right .entry)) step r0 r1 n ⌝ }
+    requires { ⌜ (l0 + n + n ≤ count (now left)) × (r0 < step) × (r1 < step) × (n * step ≤ count (now right)) ⌝ }
+    ensures { λ r. ⌜ r ≡ dotsOf (now (left .entry)) l0 (l0 + n) (now (right .entry)) step r0 r1 n ⌝ }
 {
+    let l1 = l0 + n;
     let zero = Complex { re: 0.0, im: 0.0 };
     let mut t = Block {
         e00: zero,
@@ -108,17 +115,18 @@ fn contract_block(
     left: &[f64],
     right: &[f64],
     gate: [[Complex; 4]; 4],
-    mid: usize,
-    br: usize,
+    bonds: Bonds,
     a: usize,
     b: usize,
 ) -> Block
-    requires { ⌜ (mid ≤ 128) × (br ≤ 128) × (a < 128) × (b < br) ⌝ }
-    requires { ⌜ (a * (2 * mid) + 2 * mid ≤ count (now left)) × (mid * (2 * br) ≤ count (now right)) ⌝ }
-    ensures { λ r. ⌜ r ≡ gatedBlock gate mid br (now (left .entry)) (now (right .entry)) a b ⌝ }
+    requires { ⌜ (bonds .mid ≤ 128) × (bonds .right ≤ 128) × (a < 128) × (b < bonds .right) ⌝ }
+    requires { ⌜ (a * (2 * bonds .mid) + 2 * bonds .mid ≤ count (now left)) × (bonds .mid * (2 * bonds .right) ≤ count (now right)) ⌝ }
+    ensures { λ r. ⌜ r ≡ gatedBlock gate (bonds .mid) (bonds .right) (now (left .entry)) (now (right .entry)) a b ⌝ }
 {
+    let mid = bonds.mid;
+    let br = bonds.right;
     let l0 = a * (2 * mid);
-    let t = dots(left, l0, l0 + mid, right, 2 * br, b, br + b, mid);
+    let t = dots(left, l0, right, 2 * br, b, br + b, mid);
     gate_block(gate, t)
 }
 
@@ -139,17 +147,17 @@ fn contract_line(
     right: &[f64],
     gate: [[Complex; 4]; 4],
     out: &mut [f64],
-    bl: usize,
-    mid: usize,
-    br: usize,
+    bonds: Bonds,
     b: usize,
 )
-    requires { ⌜ (bl ≤ 128) × (mid ≤ 128) × (br ≤ 128) × (b < br) ⌝ }
-    requires { ⌜ (bl * (2 * mid) ≤ count (now left)) × (mid * (2 * br) ≤ count (now right)) × (length (now out) ≡ 2 * (2 * br * (2 * bl))) ⌝ }
-    ensures { λ _. ⌜ now (out .exit) ≡ line bl (straightPlace bl br) (gatedTheta gate mid br (now (left .entry)) (now (right .entry))) b (now (out .entry)) ⌝ }
+    requires { ⌜ (bonds .left ≤ 128) × (bonds .mid ≤ 128) × (bonds .right ≤ 128) × (b < bonds .right) ⌝ }
+    requires { ⌜ (bonds .left * (2 * bonds .mid) ≤ count (now left)) × (bonds .mid * (2 * bonds .right) ≤ count (now right)) × (length (now out) ≡ 2 * (2 * bonds .right * (2 * bonds .left))) ⌝ }
+    ensures { λ _. ⌜ now (out .exit) ≡ line (bonds .left) (straightPlace (bonds .left) (bonds .right)) (gatedTheta gate (bonds .mid) (bonds .right) (now (left .entry)) (now (right .entry))) b (now (out .entry)) ⌝ }
 {
+    let bl = bonds.left;
+    let br = bonds.right;
     for a in 0..bl {
-        let t = contract_block(left, right, gate, mid, br, a, b);
+        let t = contract_block(left, right, gate, bonds, a, b);
         store_block(out, b * (2 * bl) + a * 2, 1, br * (2 * bl), t);
     }
 }
@@ -160,56 +168,46 @@ fn contract_adjoint_line(
     right: &[f64],
     gate: [[Complex; 4]; 4],
     out: &mut [f64],
-    bl: usize,
-    mid: usize,
-    br: usize,
+    bonds: Bonds,
     b: usize,
 )
-    requires { ⌜ (bl ≤ 128) × (mid ≤ 128) × (br ≤ 128) × (b < br) ⌝ }
-    requires { ⌜ (bl * (2 * mid) ≤ count (now left)) × (mid * (2 * br) ≤ count (now right)) × (length (now out) ≡ 2 * (2 * br * (2 * bl))) ⌝ }
-    ensures { λ _. ⌜ now (out .exit) ≡ line bl (adjointPlace br) (adjoint (gatedTheta gate mid br (now (left .entry)) (now (right .entry)))) b (now (out .entry)) ⌝ }
+    requires { ⌜ (bonds .left ≤ 128) × (bonds .mid ≤ 128) × (bonds .right ≤ 128) × (b < bonds .right) ⌝ }
+    requires { ⌜ (bonds .left * (2 * bonds .mid) ≤ count (now left)) × (bonds .mid * (2 * bonds .right) ≤ count (now right)) × (length (now out) ≡ 2 * (2 * bonds .right * (2 * bonds .left))) ⌝ }
+    ensures { λ _. ⌜ now (out .exit) ≡ line (bonds .left) (adjointPlace (bonds .right)) (adjoint (gatedTheta gate (bonds .mid) (bonds .right) (now (left .entry)) (now (right .entry)))) b (now (out .entry)) ⌝ }
 {
+    let bl = bonds.left;
+    let br = bonds.right;
     for a in 0..bl {
-        let t = contract_block(left, right, gate, mid, br, a, b);
+        let t = contract_block(left, right, gate, bonds, a, b);
         let u = conj_block(t);
         store_block(out, a * 2 * (2 * br) + b, 2 * br, br, u);
     }
 }
 
-// The gate on the two sites' contraction, as a matrix of 2 * bl rows and 2 * br columns, by columns.
-pub fn contract(
-    left: &[f64],
-    right: &[f64],
-    gate: [[Complex; 4]; 4],
-    out: &mut [f64],
-    bl: usize,
-    mid: usize,
-    br: usize,
-)
-    requires { ⌜ (bl ≤ 128) × (mid ≤ 128) × (br ≤ 128) ⌝ }
-    requires { ⌜ (bl * (2 * mid) ≤ count (now left)) × (mid * (2 * br) ≤ count (now right)) × (length (now out) ≡ 2 * (2 * br * (2 * bl))) ⌝ }
-    ensures { λ _. ⌜ now (out .exit) ≡ matrixOf bl br (gatedTheta gate mid br (now (left .entry)) (now (right .entry))) ⌝ }
+// The gate on the two sites' contraction, as a matrix of 2 * bonds.left rows and 2 * bonds.right columns, by columns.
+pub fn contract(left: &[f64], right: &[f64], gate: [[Complex; 4]; 4], out: &mut [f64], bonds: Bonds)
+    requires { ⌜ (bonds .left ≤ 128) × (bonds .mid ≤ 128) × (bonds .right ≤ 128) ⌝ }
+    requires { ⌜ (bonds .left * (2 * bonds .mid) ≤ count (now left)) × (bonds .mid * (2 * bonds .right) ≤ count (now right)) × (length (now out) ≡ 2 * (2 * bonds .right * (2 * bonds .left))) ⌝ }
+    ensures { λ _. ⌜ now (out .exit) ≡ matrixOf (bonds .left) (bonds .right) (gatedTheta gate (bonds .mid) (bonds .right) (now (left .entry)) (now (right .entry))) ⌝ }
 {
-    for b in 0..br {
-        contract_line(left, right, gate, out, bl, mid, br, b);
+    for b in 0..bonds.right {
+        contract_line(left, right, gate, out, bonds, b);
     }
 }
 
-// The conjugate transpose of that matrix, of 2 * br rows and 2 * bl columns, by columns. The conjugate is taken after the gate.
+// The conjugate transpose of that matrix, of 2 * bonds.right rows and 2 * bonds.left columns, by columns. The conjugate is taken after the gate.
 pub fn contract_adjoint(
     left: &[f64],
     right: &[f64],
     gate: [[Complex; 4]; 4],
     out: &mut [f64],
-    bl: usize,
-    mid: usize,
-    br: usize,
+    bonds: Bonds,
 )
-    requires { ⌜ (bl ≤ 128) × (mid ≤ 128) × (br ≤ 128) ⌝ }
-    requires { ⌜ (bl * (2 * mid) ≤ count (now left)) × (mid * (2 * br) ≤ count (now right)) × (length (now out) ≡ 2 * (2 * br * (2 * bl))) ⌝ }
-    ensures { λ _. ⌜ now (out .exit) ≡ adjointOf bl br (gatedTheta gate mid br (now (left .entry)) (now (right .entry))) ⌝ }
+    requires { ⌜ (bonds .left ≤ 128) × (bonds .mid ≤ 128) × (bonds .right ≤ 128) ⌝ }
+    requires { ⌜ (bonds .left * (2 * bonds .mid) ≤ count (now left)) × (bonds .mid * (2 * bonds .right) ≤ count (now right)) × (length (now out) ≡ 2 * (2 * bonds .right * (2 * bonds .left))) ⌝ }
+    ensures { λ _. ⌜ now (out .exit) ≡ adjointOf (bonds .left) (bonds .right) (gatedTheta gate (bonds .mid) (bonds .right) (now (left .entry)) (now (right .entry))) ⌝ }
 {
-    for b in 0..br {
-        contract_adjoint_line(left, right, gate, out, bl, mid, br, b);
+    for b in 0..bonds.right {
+        contract_adjoint_line(left, right, gate, out, bonds, b);
     }
 }

@@ -14,10 +14,10 @@ use Rattle.fills.proofs.fill_isometry_site_data.Statement.{statement}
 use Rattle.fills.proofs.fill_isometry_site_data.Tie as tie
 
 abbrev Inv-loop : tie.InvT-loop
-Inv-loop slot₀ w order base stride bl chi high size r₀ slot r = (r ≤ high) × (length slot ≡ length slot₀) × (slot ≡ rows r (λ r. numbers chi (λ g. columnOf w order base stride r g)) ++ drop (r * size) slot₀)
+Inv-loop slot₀ w order f bl chi high size r₀ slot r = (r ≤ high) × (length slot ≡ length slot₀) × (slot ≡ rows r (λ r. numbers chi (λ g. columnOf w order f r g)) ++ drop (r * size) slot₀)
 
 abbrev μ-loop : tie.MeasureT-loop
-μ-loop slot₀ w order base stride bl chi high size r₀ slot r = high - r
+μ-loop slot₀ w order f bl chi high size r₀ slot r = high - r
 
 mul-high : tie.Need-mul-high Inv-loop μ-loop
 mul-high c = omega arith
@@ -56,7 +56,7 @@ loop-less : tie.Need-loop-less Inv-loop μ-loop
 loop-less c = omega (arith, c .before .before .before .before .loop-test .taken)
 
 loop-again : tie.Need-loop-again Inv-loop μ-loop
-loop-again c = let s = (c .before .before .before .before .before .before .before .before .before) in let a = s .args in let x = c .before .before .before .before .loop-test .taken in (omega arith, omega (arith, c .before .before .isometry-row .kept, c .before .before .before .before .before .loop .inv .1), rw (c .before .before .isometry-row .ensures, c .before .before .before .before .before .loop .inv .2) (block-more (2 * a .chi) (λ r. numbers (a .chi) (λ g. columnOf (a .w .now) (a .order .now) (a .base) (a .stride) r g)) (λ r. length-numbers (a .chi) _) (c .before .before .before .before .before .loop .r) (a .slot .now) (omega (arith, s .pre .2, mul-le-mul-right (2 * a .chi) x))))
+loop-again c = let s = (c .before .before .before .before .before .before .before .before .before) in let a = s .args in let x = c .before .before .before .before .loop-test .taken in (omega arith, omega (arith, c .before .before .isometry-row .kept, c .before .before .before .before .before .loop .inv .1), rw (c .before .before .isometry-row .ensures, c .before .before .before .before .before .loop .inv .2) (block-more (2 * a .chi) (λ r. numbers (a .chi) (λ g. columnOf (a .w .now) (a .order .now) (a .f) r g)) (λ r. length-numbers (a .chi) _) (c .before .before .before .before .before .loop .r) (a .slot .now) (omega (arith, s .pre .2, mul-le-mul-right (2 * a .chi) x))))
 
 mul-clear-from : tie.Need-mul-clear-from Inv-loop μ-loop
 mul-clear-from c = let s = (c .before .before .before .before .before .before) in omega (arith, s .pre .2)
@@ -69,7 +69,7 @@ same-length c = omega (arith, c .before .before .clear-from .kept, c .before .be
 
 returns : tie.Need-returns Inv-loop μ-loop
 unfolding isometrySite
-returns c = let a = c .before .before .before .before .before .before .before .before .before .args in rw (c .before .before .clear-from .ensures, c .before .before .before .before .before .loop .inv .1, c .before .before .before .before .before .loop .inv .2, le-antisymm (c .before .before .before .before .before .loop .inv .0) (c .before .before .before .before .loop-test .left)) (rows-cleared (2 * a .bl) (2 * a .chi) (λ r. numbers (a .chi) (λ g. columnOf (a .w .now) (a .order .now) (a .base) (a .stride) r g)) (λ r. length-numbers (a .chi) _) (a .slot .now))
+returns c = let a = c .before .before .before .before .before .before .before .before .before .args in rw (c .before .before .clear-from .ensures, c .before .before .before .before .before .loop .inv .1, c .before .before .before .before .before .loop .inv .2, le-antisymm (c .before .before .before .before .before .loop .inv .0) (c .before .before .before .before .loop-test .left)) (rows-cleared (2 * a .bl) (2 * a .chi) (λ r. numbers (a .chi) (λ g. columnOf (a .w .now) (a .order .now) (a .f) r g)) (λ r. length-numbers (a .chi) _) (a .slot .now))
 
 pub fill-isometry-site-data-spec : {M : Type 1} → statement M
 fill-isometry-site-data-spec =

@@ -15,10 +15,10 @@ use Rattle.fills.proofs.fill_scaled_u_site_data.Statement.{statement}
 use Rattle.fills.proofs.fill_scaled_u_site_data.Tie as tie
 
 abbrev Inv-loop : tie.InvT-loop
-Inv-loop slot₀ w order base stride vals bl chi high size r₀ slot r = (r ≤ high) × (length slot ≡ length slot₀) × (slot ≡ rows r (λ r. numbers chi (λ g. scaleC (columnOf w order base stride r g) (valueOf w order vals g))) ++ drop (r * size) slot₀)
+Inv-loop slot₀ w order f vals bl chi high size r₀ slot r = (r ≤ high) × (length slot ≡ length slot₀) × (slot ≡ rows r (λ r. numbers chi (λ g. scaleC (columnOf w order f r g) (valueOf w order vals g))) ++ drop (r * size) slot₀)
 
 abbrev μ-loop : tie.MeasureT-loop
-μ-loop slot₀ w order base stride vals bl chi high size r₀ slot r = high - r
+μ-loop slot₀ w order f vals bl chi high size r₀ slot r = high - r
 
 mul-high : tie.Need-mul-high Inv-loop μ-loop
 mul-high c = omega arith
@@ -57,7 +57,7 @@ loop-less : tie.Need-loop-less Inv-loop μ-loop
 loop-less c = omega (arith, c .before .before .before .before .loop-test .taken)
 
 loop-again : tie.Need-loop-again Inv-loop μ-loop
-loop-again c = let s = (c .before .before .before .before .before .before .before .before .before) in let a = s .args in let x = c .before .before .before .before .loop-test .taken in (omega arith, omega (arith, c .before .before .scaled-row .kept, c .before .before .before .before .before .loop .inv .1), rw (c .before .before .scaled-row .ensures, c .before .before .before .before .before .loop .inv .2) (block-more (2 * a .chi) (λ r. numbers (a .chi) (λ g. scaleC (columnOf (a .w .now) (a .order .now) (a .base) (a .stride) r g) (valueOf (a .w .now) (a .order .now) (a .vals) g))) (λ r. length-numbers (a .chi) _) (c .before .before .before .before .before .loop .r) (a .slot .now) (omega (arith, s .pre .2, mul-le-mul-right (2 * a .chi) x))))
+loop-again c = let s = (c .before .before .before .before .before .before .before .before .before) in let a = s .args in let x = c .before .before .before .before .loop-test .taken in (omega arith, omega (arith, c .before .before .scaled-row .kept, c .before .before .before .before .before .loop .inv .1), rw (c .before .before .scaled-row .ensures, c .before .before .before .before .before .loop .inv .2) (block-more (2 * a .chi) (λ r. numbers (a .chi) (λ g. scaleC (columnOf (a .w .now) (a .order .now) (a .f) r g) (valueOf (a .w .now) (a .order .now) (a .vals) g))) (λ r. length-numbers (a .chi) _) (c .before .before .before .before .before .loop .r) (a .slot .now) (omega (arith, s .pre .2, mul-le-mul-right (2 * a .chi) x))))
 
 mul-clear-from : tie.Need-mul-clear-from Inv-loop μ-loop
 mul-clear-from c = let s = (c .before .before .before .before .before .before) in omega (arith, s .pre .2)
@@ -70,7 +70,7 @@ same-length c = omega (arith, c .before .before .clear-from .kept, c .before .be
 
 returns : tie.Need-returns Inv-loop μ-loop
 unfolding scaledSite
-returns c = let a = c .before .before .before .before .before .before .before .before .before .args in rw (c .before .before .clear-from .ensures, c .before .before .before .before .before .loop .inv .1, c .before .before .before .before .before .loop .inv .2, le-antisymm (c .before .before .before .before .before .loop .inv .0) (c .before .before .before .before .loop-test .left)) (rows-cleared (2 * a .bl) (2 * a .chi) (λ r. numbers (a .chi) (λ g. scaleC (columnOf (a .w .now) (a .order .now) (a .base) (a .stride) r g) (valueOf (a .w .now) (a .order .now) (a .vals) g))) (λ r. length-numbers (a .chi) _) (a .slot .now))
+returns c = let a = c .before .before .before .before .before .before .before .before .before .args in rw (c .before .before .clear-from .ensures, c .before .before .before .before .before .loop .inv .1, c .before .before .before .before .before .loop .inv .2, le-antisymm (c .before .before .before .before .before .loop .inv .0) (c .before .before .before .before .loop-test .left)) (rows-cleared (2 * a .bl) (2 * a .chi) (λ r. numbers (a .chi) (λ g. scaleC (columnOf (a .w .now) (a .order .now) (a .f) r g) (valueOf (a .w .now) (a .order .now) (a .vals) g))) (λ r. length-numbers (a .chi) _) (a .slot .now))
 
 pub fill-scaled-u-site-data-spec : {M : Type 1} → statement M
 fill-scaled-u-site-data-spec =

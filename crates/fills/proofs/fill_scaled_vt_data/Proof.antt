@@ -15,10 +15,10 @@ use Rattle.fills.proofs.fill_scaled_vt_data.Statement.{statement}
 use Rattle.fills.proofs.fill_scaled_vt_data.Tie as tie
 
 abbrev Inv-loop : tie.InvT-loop
-Inv-loop slot₀ w order base stride vals chi br n size g₀ slot g = (g ≤ chi) × (length slot ≡ length slot₀) × (slot ≡ rows g (λ g. numbers n (λ c. mulC (real (valueOf w order vals g)) (rowOf w order base stride g c))) ++ drop (g * size) slot₀)
+Inv-loop slot₀ w order vals chi br base stride n size g₀ slot g = (g ≤ chi) × (length slot ≡ length slot₀) × (slot ≡ rows g (λ g. numbers n (λ c. mulC (real (valueOf w order vals g)) (rowOf w order (record { base = base; stride = stride }) g c))) ++ drop (g * size) slot₀)
 
 abbrev μ-loop : tie.MeasureT-loop
-μ-loop slot₀ w order base stride vals chi br n size g₀ slot g = chi - g
+μ-loop slot₀ w order vals chi br base stride n size g₀ slot g = chi - g
 
 mul-n : tie.Need-mul-n Inv-loop μ-loop
 mul-n c = omega arith
@@ -60,10 +60,10 @@ part-scaled-conj-row-end : tie.Need-part-scaled-conj-row-end Inv-loop μ-loop
 part-scaled-conj-row-end c = let s = (c .before .before .before .before .before .before .before .before) in let a = s .args in omega (arith, s .pre .2, mul-le-mul-right (2 * (2 * a .br)) (c .before .before .before .loop-test .taken))
 
 mul-scaled-conj-row-2 : tie.Need-mul-scaled-conj-row-2 Inv-loop μ-loop
-mul-scaled-conj-row-2 c = let s = (c .before .before .before .before .before .before .before .before .before) in let a = s .args in omega (arith, s .pre .2, s .pre .4, s .pre .5 (c .before .before .before .before .before .loop .g) (c .before .before .before .before .loop-test .taken), mul-le-mul-right (2 * (2 * a .br)) (c .before .before .before .before .loop-test .taken), ap (λ (k : ℕ). k * a .stride) (c .before .before .wide .ensures))
+mul-scaled-conj-row-2 c = let s = (c .before .before .before .before .before .before .before .before .before) in let a = s .args in omega (arith, s .pre .2, s .pre .4, s .pre .5 (c .before .before .before .before .before .loop .g) (c .before .before .before .before .loop-test .taken), mul-le-mul-right (2 * (2 * a .br)) (c .before .before .before .before .loop-test .taken), ap (λ (k : ℕ). k * a .f .stride) (c .before .before .wide .ensures))
 
 scaled-conj-row-requires : tie.Need-scaled-conj-row-requires Inv-loop μ-loop
-scaled-conj-row-requires c κs = let s = (c .before .before .before .before .before .before .before .before .before) in let a = s .args in omega (arith, s .pre .2, s .pre .4, s .pre .5 (c .before .before .before .before .before .loop .g) (c .before .before .before .before .loop-test .taken), mul-le-mul-right (2 * (2 * a .br)) (c .before .before .before .before .loop-test .taken), ap (λ (k : ℕ). k * a .stride) (c .before .before .wide .ensures))
+scaled-conj-row-requires c κs = let s = (c .before .before .before .before .before .before .before .before .before) in let a = s .args in omega (arith, s .pre .2, s .pre .4, s .pre .5 (c .before .before .before .before .before .loop .g) (c .before .before .before .before .loop-test .taken), mul-le-mul-right (2 * (2 * a .br)) (c .before .before .before .before .loop-test .taken), ap (λ (k : ℕ). k * a .f .stride) (c .before .before .wide .ensures))
 
 add-g : tie.Need-add-g Inv-loop μ-loop
 add-g c = let s = (c .before .before .before .before .before .before .before .before .before .before .before .before) in omega (arith, c .before .before .before .before .before .before .before .loop-test .taken)
@@ -72,7 +72,7 @@ loop-less : tie.Need-loop-less Inv-loop μ-loop
 loop-less c = omega (arith, c .before .before .before .before .before .before .before .loop-test .taken)
 
 loop-again : tie.Need-loop-again Inv-loop μ-loop
-loop-again c = let s = (c .before .before .before .before .before .before .before .before .before .before .before .before) in let a = s .args in let x = c .before .before .before .before .before .before .before .loop-test .taken in (omega arith, omega (arith, c .before .before .scaled-conj-row .kept, c .before .before .before .before .before .before .before .before .loop .inv .1), rw (c .before .before .scaled-conj-row .ensures, c .before .before .before .before .complex-at .ensures, c .before .before .before .before .before .wide .ensures, c .before .before .before .before .before .before .before .before .loop .inv .2) (block-more (2 * (2 * a .br)) (λ g. numbers (2 * a .br) (λ c. mulC (real (valueOf (a .w .now) (a .order .now) (a .vals) g)) (rowOf (a .w .now) (a .order .now) (a .base) (a .stride) g c))) (λ g. length-numbers (2 * a .br) _) (c .before .before .before .before .before .before .before .before .loop .g) (a .slot .now) (omega (arith, s .pre .2, mul-le-mul-right (2 * (2 * a .br)) x))))
+loop-again c = let s = (c .before .before .before .before .before .before .before .before .before .before .before .before) in let a = s .args in let x = c .before .before .before .before .before .before .before .loop-test .taken in (omega arith, omega (arith, c .before .before .scaled-conj-row .kept, c .before .before .before .before .before .before .before .before .loop .inv .1), rw (c .before .before .scaled-conj-row .ensures, c .before .before .before .before .complex-at .ensures, c .before .before .before .before .before .wide .ensures, c .before .before .before .before .before .before .before .before .loop .inv .2) (block-more (2 * (2 * a .br)) (λ g. numbers (2 * a .br) (λ c. mulC (real (valueOf (a .w .now) (a .order .now) (a .vals) g)) (rowOf (a .w .now) (a .order .now) (a .f) g c))) (λ g. length-numbers (2 * a .br) _) (c .before .before .before .before .before .before .before .before .loop .g) (a .slot .now) (omega (arith, s .pre .2, mul-le-mul-right (2 * (2 * a .br)) x))))
 
 mul-clear-from : tie.Need-mul-clear-from Inv-loop μ-loop
 mul-clear-from c = let s = (c .before .before .before .before .before .before) in omega (arith, s .pre .2)
@@ -85,7 +85,7 @@ same-length c = omega (arith, c .before .before .clear-from .kept, c .before .be
 
 returns : tie.Need-returns Inv-loop μ-loop
 unfolding scaledVtSite
-returns c = let a = c .before .before .before .before .before .before .before .before .before .args in rw (c .before .before .clear-from .ensures, c .before .before .before .before .before .loop .inv .1, c .before .before .before .before .before .loop .inv .2, le-antisymm (c .before .before .before .before .before .loop .inv .0) (c .before .before .before .before .loop-test .left)) (rows-cleared (a .chi) (2 * (2 * a .br)) (λ g. numbers (2 * a .br) (λ c. mulC (real (valueOf (a .w .now) (a .order .now) (a .vals) g)) (rowOf (a .w .now) (a .order .now) (a .base) (a .stride) g c))) (λ g. length-numbers (2 * a .br) _) (a .slot .now))
+returns c = let a = c .before .before .before .before .before .before .before .before .before .args in rw (c .before .before .clear-from .ensures, c .before .before .before .before .before .loop .inv .1, c .before .before .before .before .before .loop .inv .2, le-antisymm (c .before .before .before .before .before .loop .inv .0) (c .before .before .before .before .loop-test .left)) (rows-cleared (a .chi) (2 * (2 * a .br)) (λ g. numbers (2 * a .br) (λ c. mulC (real (valueOf (a .w .now) (a .order .now) (a .vals) g)) (rowOf (a .w .now) (a .order .now) (a .f) g c))) (λ g. length-numbers (2 * a .br) _) (a .slot .now))
 
 pub fill-scaled-vt-data-spec : {M : Type 1} → statement M
 fill-scaled-vt-data-spec =

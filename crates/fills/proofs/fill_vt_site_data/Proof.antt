@@ -14,10 +14,10 @@ use Rattle.fills.proofs.fill_vt_site_data.Statement.{statement}
 use Rattle.fills.proofs.fill_vt_site_data.Tie as tie
 
 abbrev Inv-loop : tie.InvT-loop
-Inv-loop slot₀ w order base stride chi br n size g₀ slot g = (g ≤ chi) × (length slot ≡ length slot₀) × (slot ≡ rows g (λ g. numbers n (λ c. rowOf w order base stride g c)) ++ drop (g * size) slot₀)
+Inv-loop slot₀ w order chi br base stride n size g₀ slot g = (g ≤ chi) × (length slot ≡ length slot₀) × (slot ≡ rows g (λ g. numbers n (λ c. rowOf w order (record { base = base; stride = stride }) g c)) ++ drop (g * size) slot₀)
 
 abbrev μ-loop : tie.MeasureT-loop
-μ-loop slot₀ w order base stride chi br n size g₀ slot g = chi - g
+μ-loop slot₀ w order chi br base stride n size g₀ slot g = chi - g
 
 mul-n : tie.Need-mul-n Inv-loop μ-loop
 mul-n c = omega arith
@@ -53,10 +53,10 @@ part-conj-row-end : tie.Need-part-conj-row-end Inv-loop μ-loop
 part-conj-row-end c = let s = (c .before .before .before .before .before .before .before) in let a = s .args in omega (arith, s .pre .2, mul-le-mul-right (2 * (2 * a .br)) (c .before .before .loop-test .taken))
 
 mul-conj-row-2 : tie.Need-mul-conj-row-2 Inv-loop μ-loop
-mul-conj-row-2 c = let s = (c .before .before .before .before .before .before .before .before) in let a = s .args in omega (arith, s .pre .2, s .pre .4, s .pre .5 (c .before .before .before .before .loop .g) (c .before .before .before .loop-test .taken), mul-le-mul-right (2 * (2 * a .br)) (c .before .before .before .loop-test .taken), ap (λ (k : ℕ). k * a .stride) (c .before .wide .ensures))
+mul-conj-row-2 c = let s = (c .before .before .before .before .before .before .before .before) in let a = s .args in omega (arith, s .pre .2, s .pre .4, s .pre .5 (c .before .before .before .before .loop .g) (c .before .before .before .loop-test .taken), mul-le-mul-right (2 * (2 * a .br)) (c .before .before .before .loop-test .taken), ap (λ (k : ℕ). k * a .f .stride) (c .before .wide .ensures))
 
 conj-row-requires : tie.Need-conj-row-requires Inv-loop μ-loop
-conj-row-requires c κs = let s = (c .before .before .before .before .before .before .before .before) in let a = s .args in omega (arith, s .pre .2, s .pre .4, s .pre .5 (c .before .before .before .before .loop .g) (c .before .before .before .loop-test .taken), mul-le-mul-right (2 * (2 * a .br)) (c .before .before .before .loop-test .taken), ap (λ (k : ℕ). k * a .stride) (c .before .wide .ensures))
+conj-row-requires c κs = let s = (c .before .before .before .before .before .before .before .before) in let a = s .args in omega (arith, s .pre .2, s .pre .4, s .pre .5 (c .before .before .before .before .loop .g) (c .before .before .before .loop-test .taken), mul-le-mul-right (2 * (2 * a .br)) (c .before .before .before .loop-test .taken), ap (λ (k : ℕ). k * a .f .stride) (c .before .wide .ensures))
 
 add-g : tie.Need-add-g Inv-loop μ-loop
 add-g c = let s = (c .before .before .before .before .before .before .before .before .before .before .before) in omega (arith, c .before .before .before .before .before .before .loop-test .taken)
@@ -65,7 +65,7 @@ loop-less : tie.Need-loop-less Inv-loop μ-loop
 loop-less c = omega (arith, c .before .before .before .before .before .before .loop-test .taken)
 
 loop-again : tie.Need-loop-again Inv-loop μ-loop
-loop-again c = let s = (c .before .before .before .before .before .before .before .before .before .before .before) in let a = s .args in let x = c .before .before .before .before .before .before .loop-test .taken in (omega arith, omega (arith, c .before .before .conj-row .kept, c .before .before .before .before .before .before .before .loop .inv .1), rw (c .before .before .conj-row .ensures, c .before .before .before .before .wide .ensures, c .before .before .before .before .before .before .before .loop .inv .2) (block-more (2 * (2 * a .br)) (λ g. numbers (2 * a .br) (λ c. rowOf (a .w .now) (a .order .now) (a .base) (a .stride) g c)) (λ g. length-numbers (2 * a .br) _) (c .before .before .before .before .before .before .before .loop .g) (a .slot .now) (omega (arith, s .pre .2, mul-le-mul-right (2 * (2 * a .br)) x))))
+loop-again c = let s = (c .before .before .before .before .before .before .before .before .before .before .before) in let a = s .args in let x = c .before .before .before .before .before .before .loop-test .taken in (omega arith, omega (arith, c .before .before .conj-row .kept, c .before .before .before .before .before .before .before .loop .inv .1), rw (c .before .before .conj-row .ensures, c .before .before .before .before .wide .ensures, c .before .before .before .before .before .before .before .loop .inv .2) (block-more (2 * (2 * a .br)) (λ g. numbers (2 * a .br) (λ c. rowOf (a .w .now) (a .order .now) (a .f) g c)) (λ g. length-numbers (2 * a .br) _) (c .before .before .before .before .before .before .before .loop .g) (a .slot .now) (omega (arith, s .pre .2, mul-le-mul-right (2 * (2 * a .br)) x))))
 
 mul-clear-from : tie.Need-mul-clear-from Inv-loop μ-loop
 mul-clear-from c = let s = (c .before .before .before .before .before .before) in omega (arith, s .pre .2)
@@ -78,7 +78,7 @@ same-length c = omega (arith, c .before .before .clear-from .kept, c .before .be
 
 returns : tie.Need-returns Inv-loop μ-loop
 unfolding vtSite
-returns c = let a = c .before .before .before .before .before .before .before .before .before .args in rw (c .before .before .clear-from .ensures, c .before .before .before .before .before .loop .inv .1, c .before .before .before .before .before .loop .inv .2, le-antisymm (c .before .before .before .before .before .loop .inv .0) (c .before .before .before .before .loop-test .left)) (rows-cleared (a .chi) (2 * (2 * a .br)) (λ g. numbers (2 * a .br) (λ c. rowOf (a .w .now) (a .order .now) (a .base) (a .stride) g c)) (λ g. length-numbers (2 * a .br) _) (a .slot .now))
+returns c = let a = c .before .before .before .before .before .before .before .before .before .args in rw (c .before .before .clear-from .ensures, c .before .before .before .before .before .loop .inv .1, c .before .before .before .before .before .loop .inv .2, le-antisymm (c .before .before .before .before .before .loop .inv .0) (c .before .before .before .before .loop-test .left)) (rows-cleared (a .chi) (2 * (2 * a .br)) (λ g. numbers (2 * a .br) (λ c. rowOf (a .w .now) (a .order .now) (a .f) g c)) (λ g. length-numbers (2 * a .br) _) (a .slot .now))
 
 pub fill-vt-site-data-spec : {M : Type 1} → statement M
 fill-vt-site-data-spec =

@@ -12,10 +12,10 @@ use Rattle.pair.proofs.contract.Statement.{statement}
 use Rattle.pair.proofs.contract.Tie as tie
 
 abbrev Inv-loop : tie.InvT-loop
-Inv-loop left right gate out₀ bl mid br b₀ out b = (b ≤ br) × (length out ≡ length out₀) × (out ≡ each b (line bl (straightPlace bl br) (gatedTheta gate mid br left right)) out₀)
+Inv-loop left right gate out₀ bonds br b₀ out b = (b ≤ bonds .right) × (length out ≡ length out₀) × (out ≡ each b (line (bonds .left) (straightPlace (bonds .left) (bonds .right)) (gatedTheta gate (bonds .mid) (bonds .right) left right)) out₀)
 
 abbrev μ-loop : tie.MeasureT-loop
-μ-loop left right gate out₀ bl mid br b₀ out b = br - b
+μ-loop left right gate out₀ bonds br b₀ out b = bonds .right - b
 
 loop-holds : tie.Need-loop-holds Inv-loop μ-loop
 loop-holds c = (omega arith, omega arith, rw each-none)
@@ -37,7 +37,7 @@ same-length c = omega arith
 
 returns : tie.Need-returns Inv-loop μ-loop
 unfolding lines
-returns c = let a = c .before .before .before .before .before .args in rw (c .before .loop .inv .2, le-antisymm (c .before .loop .inv .0) (c .loop-test .left)) (lines-straight (a .bl) (a .br) (gatedTheta (a .gate) (a .mid) (a .br) (a .left .now) (a .right .now)) (a .out .now) (c .before .before .before .before .before .pre .1 .2))
+returns c = let a = c .before .before .before .before .before .args in rw (c .before .loop .inv .2, le-antisymm (c .before .loop .inv .0) (c .loop-test .left)) (lines-straight (a .bonds .left) (a .bonds .right) (gatedTheta (a .gate) (a .bonds .mid) (a .bonds .right) (a .left .now) (a .right .now)) (a .out .now) (c .before .before .before .before .before .pre .1 .2))
 
 pub contract-spec : {M : Type 1} → statement M
 contract-spec =

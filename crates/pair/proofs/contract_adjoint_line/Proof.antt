@@ -13,16 +13,16 @@ use Rattle.pair.proofs.contract_adjoint_line.Statement.{statement}
 use Rattle.pair.proofs.contract_adjoint_line.Tie as tie
 
 abbrev Inv-loop : tie.InvT-loop
-Inv-loop left right gate out₀ bl mid br b a₀ out a = (a ≤ bl) × (length out ≡ length out₀) × (out ≡ each a (block (adjointPlace br) (adjoint (gatedTheta gate mid br left right)) b) out₀)
+Inv-loop left right gate out₀ bonds b bl br a₀ out a = (a ≤ bonds .left) × (length out ≡ length out₀) × (out ≡ each a (block (adjointPlace (bonds .right)) (adjoint (gatedTheta gate (bonds .mid) (bonds .right) left right)) b) out₀)
 
 abbrev μ-loop : tie.MeasureT-loop
-μ-loop left right gate out₀ bl mid br b a₀ out a = bl - a
+μ-loop left right gate out₀ bonds b bl br a₀ out a = bonds .left - a
 
 loop-holds : tie.Need-loop-holds Inv-loop μ-loop
 loop-holds c = (omega arith, omega arith, rw each-none)
 
 contract-block-requires : tie.Need-contract-block-requires Inv-loop μ-loop
-contract-block-requires c κs = omega (arith, mul-le-mul-right (2 * c .before .before .before .before .before .args .mid) (c .loop-test .taken))
+contract-block-requires c κs = omega (arith, mul-le-mul-right (2 * c .before .before .before .before .before .args .bonds .mid) (c .loop-test .taken))
 
 conj-block-requires : tie.Need-conj-block-requires Inv-loop μ-loop
 conj-block-requires c κs = search needs
@@ -53,7 +53,7 @@ loop-less c = omega arith
 
 loop-again : tie.Need-loop-again Inv-loop μ-loop
 unfolding gatedBlock
-loop-again c = let a = c .before .before .before .before .before .before .before .before .before .before .before .args in (omega arith, omega arith, rw (each-more, c .before .before .store-block .ensures, c .before .before .before .before .before .before .before .loop .inv .2) (simp (c .before .before .before .before .conj-block .ensures, c .before .before .before .before .before .contract-block .ensures) (stored-adjoint (a .br) (gatedTheta (a .gate) (a .mid) (a .br) (a .left .now) (a .right .now)) (c .before .before .before .before .before .before .before .loop .a) (a .b) _)))
+loop-again c = let a = c .before .before .before .before .before .before .before .before .before .before .before .args in (omega arith, omega arith, rw (each-more, c .before .before .store-block .ensures, c .before .before .before .before .before .before .before .loop .inv .2) (simp (c .before .before .before .before .conj-block .ensures, c .before .before .before .before .before .contract-block .ensures) (stored-adjoint (a .bonds .right) (gatedTheta (a .gate) (a .bonds .mid) (a .bonds .right) (a .left .now) (a .right .now)) (c .before .before .before .before .before .before .before .loop .a) (a .b) _)))
 
 same-length : tie.Need-same-length Inv-loop μ-loop
 same-length c = omega arith

@@ -12,16 +12,16 @@ use Rattle.pair.proofs.contract_line.Statement.{statement}
 use Rattle.pair.proofs.contract_line.Tie as tie
 
 abbrev Inv-loop : tie.InvT-loop
-Inv-loop left right gate out₀ bl mid br b a₀ out a = (a ≤ bl) × (length out ≡ length out₀) × (out ≡ each a (block (straightPlace bl br) (gatedTheta gate mid br left right) b) out₀)
+Inv-loop left right gate out₀ bonds b bl br a₀ out a = (a ≤ bonds .left) × (length out ≡ length out₀) × (out ≡ each a (block (straightPlace (bonds .left) (bonds .right)) (gatedTheta gate (bonds .mid) (bonds .right) left right) b) out₀)
 
 abbrev μ-loop : tie.MeasureT-loop
-μ-loop left right gate out₀ bl mid br b a₀ out a = bl - a
+μ-loop left right gate out₀ bonds b bl br a₀ out a = bonds .left - a
 
 loop-holds : tie.Need-loop-holds Inv-loop μ-loop
 loop-holds c = (omega arith, omega arith, rw each-none)
 
 contract-block-requires : tie.Need-contract-block-requires Inv-loop μ-loop
-contract-block-requires c κs = omega (arith, mul-le-mul-right (2 * c .before .before .before .before .before .args .mid) (c .loop-test .taken))
+contract-block-requires c κs = omega (arith, mul-le-mul-right (2 * c .before .before .before .before .before .args .bonds .mid) (c .loop-test .taken))
 
 mul-store-block : tie.Need-mul-store-block Inv-loop μ-loop
 mul-store-block c = let p = c .before .before .before .before .before .before .before .pre in omega (arith, straight-room (p .0 .0) (p .0 .2) (c .before .before .loop-test .taken) (p .0 .3))
@@ -52,7 +52,7 @@ loop-less c = omega arith
 
 loop-again : tie.Need-loop-again Inv-loop μ-loop
 unfolding gatedBlock
-loop-again c = let a = c .before .before .before .before .before .before .before .before .before .before .args in (omega arith, omega arith, rw (each-more, c .before .before .store-block .ensures, c .before .before .before .before .contract-block .ensures, c .before .before .before .before .before .before .loop .inv .2) (stored-straight (a .bl) (a .br) (gatedTheta (a .gate) (a .mid) (a .br) (a .left .now) (a .right .now)) (c .before .before .before .before .before .before .loop .a) (a .b) _))
+loop-again c = let a = c .before .before .before .before .before .before .before .before .before .before .args in (omega arith, omega arith, rw (each-more, c .before .before .store-block .ensures, c .before .before .before .before .contract-block .ensures, c .before .before .before .before .before .before .loop .inv .2) (stored-straight (a .bonds .left) (a .bonds .right) (gatedTheta (a .gate) (a .bonds .mid) (a .bonds .right) (a .left .now) (a .right .now)) (c .before .before .before .before .before .before .loop .a) (a .b) _))
 
 same-length : tie.Need-same-length Inv-loop μ-loop
 same-length c = omega arith

@@ -9,10 +9,13 @@ use Rattle.pair.proofs.dots.Statement.{statement}
 use Rattle.pair.proofs.dots.Tie as tie
 
 abbrev Inv-loop : tie.InvT-loop
-Inv-loop left l0 l1 right step r0 r1 n t₀ g₀ t g = (g ≤ n) × (t ≡ dotsOf left l0 l1 right step r0 r1 g)
+Inv-loop left l0 right step r0 r1 n l1 t₀ g₀ t g = (g ≤ n) × (t ≡ dotsOf left l0 l1 right step r0 r1 g)
 
 abbrev μ-loop : tie.MeasureT-loop
-μ-loop left l0 l1 right step r0 r1 n t₀ g₀ t g = n - g
+μ-loop left l0 right step r0 r1 n l1 t₀ g₀ t g = n - g
+
+add-l1 : tie.Need-add-l1 Inv-loop μ-loop
+add-l1 c = omega arith
 
 loop-holds : tie.Need-loop-holds Inv-loop μ-loop
 loop-holds c = (omega arith, rw dots-none)
@@ -68,6 +71,7 @@ dots-spec =
     (tie.spec
     Inv-loop
     μ-loop
+    add-l1
     loop-holds
     add-complex-at
     complex-at-requires
