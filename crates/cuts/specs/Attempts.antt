@@ -1,8 +1,8 @@
 -- An attempt and a cut by their branches, and that each leaves the chain ready for the next.
 use Prim.Native.Nat.{ℕ, zero, suc, _+_, _-_, _^_, _<_}
-use mathlib.Core.Path.{_≡_, sym, ap, _∙_, subst}
+use mathlib.Core.Path.{_≡_, sym, ap, ap₂, _∙_, subst}
 use mathlib.Core.Logic.{_≢_}
-use mathlib.Core.Bool.{Bool, true, false, not, _&&_, cond}
+use mathlib.Core.Bool.{Bool, true, false, not, _&&_, _||_, cond}
 use mathlib.Core.List.{List, map}
 use native.Mathlib.Omega.{arith}
 use lib.Dec.{ltb}
@@ -16,20 +16,24 @@ use Rattle.model.specs.declared.WeightSide.the-variants.{Right}
 use Rattle.model.specs.Chain.{withCenter, siteOf, qubitAt}
 use Rattle.model.specs.Slots.{State, held, lefts, rights, siteAt, withSite}
 use Rattle.model.specs.Svd.{Svd, values}
-use Rattle.model.specs.Truncation.{workspace}
+use Rattle.model.specs.Truncation.{rank, resolvable, share, cutRank, workspace}
 use Rattle.model.specs.Pair.{pairSvd, leftSite, rightSite}
 use Rattle.model.specs.Moves.{Prepared, prepared, preparedOn, established}
-use Rattle.model.specs.Cut.{Tried, tried, Ran, ran, weightSite, cutWith, attempt, adjacent}
+use Rattle.model.specs.Cut.{Tried, tried, Ran, ran, known, canLose, weightSite, cutWith, attempt, adjacent}
 use Rattle.model.specs.Routing.{downTo, swapStep, stepped}
 use Rattle.model.specs.Statements.Table.{pairOf}
 use Rattle.model.specs.Statements.Pinned.{keepsCentre, preparedFor}
 use Rattle.model.specs.Statements.Soundness.{Sound}
 use Rattle.model.specs.Laws.MoveLaws.{established-narrowed}
 use Rattle.model.specs.Laws.SoundKept.{Keeps, Inside, narrowed-keeps, prepared-narrowed, attempt-keeps, adjacent-keeps, stepped-keeps, runSteps-keeps}
+use Rattle.truncation.specs.Shares.{sharesOf}
+use Rattle.pair.specs.declared.Bonds.{Bonds}
+use Rattle.cutting.specs.declared.Decomposed.{Decomposed}
 use Rattle.cutting.specs.declared.Kept.{Kept}
-use Rattle.cutting.specs.Kept.{keptOf, nanIn}
+use Rattle.cutting.specs.Shape.{standing, nanIn, Made}
+use Rattle.cutting.specs.Kept.{KeptOf}
 use Rattle.moves.specs.Ready.{Ready}
-use Rattle.cuts.specs.Pair.{recordedCut}
+use Rattle.cuts.specs.Pair.{bondsOf, recordedCut}
 use Rattle.cuts.specs.Runs.{swapsDown}
 
 -- ---- what is left ready
@@ -71,67 +75,83 @@ swaps-keep c r store out h near m n l e = subst (λ (t : Ran). Keeps c (t .state
 pub sites-two : (c : Chain) → Sound c → (q0 q1 : ℕ) → q0 < c .«num_qubits» → q1 < c .«num_qubits» → q0 ≢ q1 → siteOf c q0 ≢ siteOf c q1
 sites-two c h q0 q1 l m two e = two (sym (h .sites .undone q0 l) ∙ ap (λ (k : ℕ). qubitAt c k) e ∙ h .sites .undone q1 m)
 
--- ---- one cut, of the bonds bl, mid and br
+-- ---- one cut, of the bonds b: r is the decomposition, and w begins with it
 
-module _ (gate : List (List Complex)) (k : ℕ) (s : State) (bl mid br : ℕ) (el : bl ≡ lefts s k) (em : mid ≡ rights s k) (er : br ≡ rights s (k + 1)) where
+module _ (gate : List (List Complex)) (k : ℕ) (s : State) (b : Bonds) (eb : b ≡ bondsOf (s .chain) k) where
   abbrev pairIn : Svd
-  pairIn = pairSvd (s .chain .«norm_clamp_min») bl mid br gate (siteAt s k) (siteAt s (k + 1))
+  pairIn = pairSvd (s .chain .«norm_clamp_min») (b .left) (b .mid) (b .right) gate (siteAt s k) (siteAt s (k + 1))
 
   pair-in : pairIn ≡ pairOf gate k s
-  pair-in = rw (el, em, er)
+  pair-in = rw eb
 
-  module _ (maintained : Bool) (side : WeightSide) (nan : Bool) (e : nan ≡ nanIn pairIn) where
-    pub cut-nan : nan ≡ true → tried 7 false s ≡ cutWith gate k maintained (prepared side s)
+  module _ (maintained : Bool) (side : WeightSide) (w : List Float) (r : Decomposed) (m : Made (b .left) (b .right) pairIn w r) where
+    pub cut-nan : r .nan ≡ true → tried 7 false s ≡ cutWith gate k maintained (prepared side s)
     unfolding cutWith
-    cut-nan z = let y : nanIn (pairOf gate k s) ≡ true = ap nanIn (sym pair-in) ∙ sym e ∙ z in rw y
+    cut-nan z = let y : nanIn (pairOf gate k s) ≡ true = ap nanIn (sym pair-in) ∙ sym (m .nan) ∙ z in rw y
 
-    module _ (z : nan ≡ false) (kept : Kept) (d : Svd) (f : d ≡ pairIn) (g : kept ≡ keptOf (s .chain .«svd_epsilon») (s .chain .«max_bond_dim») (s .chain .«truncation_discarded») (values d)) where
+    module _ (z : r .nan ≡ false) (kept : Kept) (g : KeptOf (s .chain .«svd_epsilon») (s .chain .«max_bond_dim») (values (standing (r .shape) w (r .order))) kept) where
+      abbrev chi : ℕ
+      chi = rank (s .chain .«svd_epsilon») (s .chain .«max_bond_dim») (values (pairOf gate k s))
+
       not-nan : nanIn (pairOf gate k s) ≡ false
-      not-nan = ap nanIn (sym pair-in) ∙ sym e ∙ z
+      not-nan = ap nanIn (sym pair-in) ∙ sym (m .nan) ∙ z
 
-      kept-of : kept ≡ keptOf (s .chain .«svd_epsilon») (s .chain .«max_bond_dim») (s .chain .«truncation_discarded») (values (pairOf gate k s))
-      kept-of = g ∙ ap (λ (x : Svd). keptOf (s .chain .«svd_epsilon») (s .chain .«max_bond_dim») (s .chain .«truncation_discarded») (values x)) (f ∙ pair-in)
+      whole : standing (r .shape) w (r .order) ≡ pairOf gate k s
+      whole = m .whole ∙ pair-in
+
+      kept-rank : kept .chi ≡ chi
+      kept-rank = g .rank ∙ ap (λ (d : Svd). rank (s .chain .«svd_epsilon») (s .chain .«max_bond_dim») (values d)) whole
+
+      kept-lost : kept .resolvable ≡ resolvable (values (pairOf gate k s)) chi
+      kept-lost = g .resolvable ∙ ap₂ (λ (d : Svd) (n : ℕ). resolvable (values d) n) whole kept-rank
+
+      kept-share : sharesOf (kept .share) ≡ share (values (pairOf gate k s)) chi
+      kept-share = g .share ∙ ap₂ (λ (d : Svd) (n : ℕ). share (values d) n) whole kept-rank
 
       pub cut-again : not maintained && kept .resolvable ≡ true → tried 0 true s ≡ cutWith gate k maintained (prepared side s)
       unfolding cutWith
-      cut-again t = let y = ap (λ (x : Kept). not maintained && x .resolvable) (sym kept-of) ∙ t in rw (not-nan, y)
+      cut-again t = let y = ap (λ (x : Bool). not maintained && x) (sym kept-lost) ∙ t in rw (not-nan, y)
 
       pub cut-stored : not maintained && kept .resolvable ≡ false
           → tried 0 false
-          (held (withCenter (recordedCut (s .chain) k (kept .chi) (kept .discarded)) (cond maintained (At (weightSite side k)) (s .chain .center)))
-          (withSite (s .chain .«max_bond_dim») (k + 1) (rightSite side (kept .chi) br d) (withSite (s .chain .«max_bond_dim») k (leftSite side bl (kept .chi) d) (s .store))))
+          (held (recordedCut (withCenter (s .chain) (cond maintained (At (weightSite side k)) (s .chain .center))) k (kept .chi) (sharesOf (kept .share)))
+          (withSite (s .chain .«max_bond_dim») (k + 1) (rightSite side (kept .chi) (b .right) (standing (r .shape) w (r .order)))
+          (withSite (s .chain .«max_bond_dim») k (leftSite side (b .left) (kept .chi) (standing (r .shape) w (r .order))) (s .store))))
           ≡ cutWith gate k maintained (prepared side s)
       unfolding cutWith
-      cut-stored t =
-          let y = ap (λ (x : Kept). not maintained && x .resolvable) (sym kept-of) ∙ t in
-          let w : d ≡ pairOf gate k s = f ∙ pair-in in
-          rw (not-nan, y, kept-of, w, el, er)
+      cut-stored t = let y = ap (λ (x : Bool). not maintained && x) (sym kept-lost) ∙ t in rw (not-nan, y, kept-share, kept-rank, whole, eb)
 
--- ---- one attempt
+-- ---- one attempt at a pair of bonds b
 
-module _ (gate : List (List Complex)) (k : ℕ) (s : State) where
-  abbrev above : Bool
-  above = ltb (2 ^ s .chain .«workspace_exponent») (workspace (lefts s k) (rights s k) (rights s (k + 1)))
+abbrev above : State → Bonds → Bool
+above s b = ltb (2 ^ s .chain .«workspace_exponent») (workspace (b .left) (b .mid) (b .right))
 
-  pub attempt-above : above ≡ true → tried 6 false s ≡ attempt gate k s
+abbrev keeps : State → Bonds → Bool
+keeps s b = known (s .chain .center) || canLose (s .chain) (cutRank (b .left) (b .mid) (b .right))
+
+pub keeps-centre : (k : ℕ) (s : State) (b : Bonds) → b ≡ bondsOf (s .chain) k → keeps s b ≡ true → keepsCentre k s ≡ true
+keeps-centre k s b eb e = rw eb at e
+
+module _ (gate : List (List Complex)) (k : ℕ) (s : State) (b : Bonds) (eb : b ≡ bondsOf (s .chain) k) where
+  pub attempt-above : above s b ≡ true → tried 6 false s ≡ attempt gate k s
   unfolding attempt
-  attempt-above e = rw e
+  attempt-above e = rw (rw eb at e)
 
-  pub attempt-kept : (p : Prepared) (t : Tried) → above ≡ false → keepsCentre k s ≡ true → p ≡ preparedOn k (s .chain .center) s → t ≡ cutWith gate k true p → t ≡ attempt gate k s
+  pub attempt-kept : (p : Prepared) (t : Tried) → above s b ≡ false → keeps s b ≡ true → p ≡ preparedOn k (s .chain .center) s → t ≡ cutWith gate k true p → t ≡ attempt gate k s
   unfolding attempt
-  attempt-kept p t a e f g = rw (a, e) (g ∙ ap (cutWith gate k true) f)
+  attempt-kept p t a e f g = rw (rw eb at a, rw eb at e) (g ∙ ap (cutWith gate k true) f)
 
-  pub attempt-bare : (t : Tried) → above ≡ false → keepsCentre k s ≡ false → t ≡ cutWith gate k false (prepared Right s) → t ≡ attempt gate k s
+  pub attempt-bare : (t : Tried) → above s b ≡ false → keeps s b ≡ false → t ≡ cutWith gate k false (prepared Right s) → t ≡ attempt gate k s
   unfolding attempt
-  attempt-bare t a e g = rw (a, e) g
+  attempt-bare t a e g = rw (rw eb at a, rw eb at e) g
 
-  -- ---- made again at most once
+-- ---- made again at most once
 
-  module _ (t : Tried) (e : t ≡ attempt gate k s) where
-    pub adjacent-once : t .again ≡ false → ran (t .refused) (t .state) ≡ adjacent gate k s
-    unfolding adjacent
-    adjacent-once z = rw (← e, z)
+module _ (gate : List (List Complex)) (k : ℕ) (s : State) (t : Tried) (e : t ≡ attempt gate k s) where
+  pub adjacent-once : t .again ≡ false → ran (t .refused) (t .state) ≡ adjacent gate k s
+  unfolding adjacent
+  adjacent-once z = rw (← e, z)
 
-    pub adjacent-twice : (u : Tried) → t .again ≡ true → u ≡ attempt gate k (established k (t .state)) → ran (u .refused) (u .state) ≡ adjacent gate k s
-    unfolding adjacent
-    adjacent-twice u z f = rw (← e, z, ← f)
+  pub adjacent-twice : (u : Tried) → t .again ≡ true → u ≡ attempt gate k (established k (t .state)) → ran (u .refused) (u .state) ≡ adjacent gate k s
+  unfolding adjacent
+  adjacent-twice u z f = rw (← e, z, ← f)

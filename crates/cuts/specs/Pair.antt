@@ -1,6 +1,6 @@
--- A pair of neighbours with room to cut it, and the record after the cut.
-use Prim.Native.Nat.{ℕ, _+_, _*_, _%_, _^_, _≤_, max}
-use mathlib.Core.Path.{_≡_, _∙_}
+-- A pair of neighbours: its bonds, room to cut it, and the record after the cut.
+use Prim.Native.Nat.{ℕ, _+_, _*_, _%_, _^_, _≤_, _<_, max}
+use mathlib.Core.Path.{_≡_, ap, _∙_}
 use mathlib.Core.List.{List}
 use native.Mathlib.Nat.{mul-le-mul, mod-eq-of-lt, pow-le-pow-right}
 use native.Mathlib.Omega.{arith}
@@ -9,20 +9,38 @@ use lib.Ieee.{Float}
 use Rattle.complex.specs.Numbers.{count}
 use Rattle.complex.specs.Parts.{put}
 use Rattle.model.specs.declared.Chain.{Chain}
-use Rattle.model.specs.Chain.{withBond, withTruncation}
+use Rattle.model.specs.Chain.{bondLeft, bondRight, withBond, withTruncation}
+use Rattle.model.specs.Truncation.{recorded}
 use Rattle.model.specs.Slots.{slotRoom, slotOf}
 use Rattle.cutting.specs.Shape.{shapeOf, room, room-fits}
+use Rattle.pair.specs.declared.Bonds.{Bonds}
+use Rattle.moves.specs.Ready.{Ready, pair-right}
 use Rattle.moves.specs.Steps.{Pair, first-slot, second-slot, second-after}
 
--- the bond, the widest bond so far, and the weight discarded so far
-abbrev pub recordedCut : Chain → ℕ → ℕ → Float → Chain
-recordedCut c k chi discarded = withTruncation (withBond c k chi) (max (c .«bond_high_water») chi) discarded
+-- the bonds of the sites k and k + 1
+abbrev pub bondsOf : Chain → ℕ → Bonds
+bondsOf c k = record { left = bondLeft c k; mid = bondRight c k; right = bondRight c (k + 1) }
+
+-- each of them is a byte
+pub record Bytes (b : Bonds) : Type 0 where
+  pub left : b .left ≤ 255
+  pub mid : b .mid ≤ 255
+  pub right : b .right ≤ 255
+
+-- the bond, the widest bond so far, and the weight discarded so far, with a cut's shares added
+abbrev pub recordedCut : Chain → ℕ → ℕ → List Float → Chain
+recordedCut c k chi shares = withTruncation (withBond c k chi) (max (c .«bond_high_water») chi) (recorded (c .«truncation_discarded») shares)
 
 -- a shift of 1, as the machine has it
 pub shifted : (e : ℕ) → e ≤ 63 → 1 * 2 ^ e % 18446744073709551616 ≡ 2 ^ e
 shifted e l =
     let m : 2 ^ e ≤ 2 ^ 63 = pow-le-pow-right {n = 2} (omega arith) l in
     mod-eq-of-lt (omega arith) ∙ omega arith
+
+-- a chain that is ready has room to cut each two neighbours
+pub pair-of : (c : Chain) (store work : List Float) → Ready c store work → (k : ℕ) → k + 1 < c .«num_qubits» → (b : Bonds) → b ≡ bondsOf c k → Pair (c .«max_bond_dim») k (b .left) (b .mid) (b .right) store work
+pair-of c store work h k l b e =
+    pair-right c store work h k l (b .left) (b .mid) (b .right) (ap (λ (x : Bonds). x .left) e) (ap (λ (x : Bonds). x .right) e) (ap (λ (x : Bonds). x .mid) e)
 
 module _ (d k bl mid br : ℕ) (store work : List Float) (p : Pair d k bl mid br store work) where
   -- another bond within the cap between them, and a work slice of the same length

@@ -2,6 +2,7 @@
 use columns::larger;
 use columns::smaller;
 use complex::Complex;
+use cutting::Decomposed;
 use cutting::decompose;
 use cutting::kept_values;
 use cutting::store_left;
@@ -14,28 +15,27 @@ use model::Chain;
 use model::WeightSide;
 use moves::establish_center;
 use moves::prepare_center;
-use svd::Factored;
+use pair::Bonds;
+use truncation::Share;
 ghost use mathlib.Core.Path.{_≡_};
 ghost use mathlib.Core.Logic.{_≢_};
 ghost use mathlib.Core.Bool.{_||_, cond};
-ghost use Prim.Native.Nat.{_+_, _-_, _*_, _^_, _<_, _≤_, min, max};
+ghost use Prim.Native.Nat.{_+_, _-_, _^_, _<_, _≤_};
 ghost use lib.Dec.{ltb};
-ghost use lib.ListN.{length};
-ghost use Rattle.model.specs.Chain.{bondLeft, bondRight, withCenter};
+ghost use Rattle.model.specs.Chain.{withCenter};
 ghost use Rattle.model.specs.Slots.{held, slotOf, withSite};
-ghost use Rattle.model.specs.Truncation.{cutRank, workspace};
+ghost use Rattle.model.specs.Truncation.{recorded, cutRank, workspace};
 ghost use Rattle.model.specs.Pair.{pairSvd, leftSite, rightSite};
 ghost use Rattle.model.specs.Moves.{prepared, established};
 ghost use Rattle.model.specs.declared.Center.the-variants.{At};
 ghost use Rattle.model.specs.Cut.{known, canLose, tried, weightSite, cutWith, attempt, ran, adjacent};
 ghost use Rattle.model.specs.Routing.{relabelled, swapStep, stepped, gateRun};
 ghost use Rattle.model.specs.Statements.Soundness.{Sound};
-ghost use Rattle.svd.specs.Order.{Below};
-ghost use Rattle.cutting.specs.Shape.{shapeOf, standing};
-ghost use Rattle.cutting.specs.Kept.{nanIn};
+ghost use Rattle.truncation.specs.Shares.{sharesOf};
+ghost use Rattle.cutting.specs.Shape.{shapeOf, standing, Stands, Made};
 ghost use Rattle.moves.specs.Ready.{Ready};
 ghost use Rattle.moves.specs.Steps.{Pair};
-ghost use Rattle.cuts.specs.Pair.{recordedCut};
+ghost use Rattle.cuts.specs.Pair.{bondsOf, Bytes, recordedCut};
 ghost use Rattle.cuts.specs.Runs.{swapsDown, routedGate};
 
 fn wide(x: u8) -> usize
@@ -44,18 +44,28 @@ fn wide(x: u8) -> usize
     x as usize
 }
 
-// ---- the tests before a cut
+// ---- the bonds of a pair, and the tests before a cut
 
-// Whether a cut between sites k and k + 1 needs more numbers than the setting allows.
-fn workspace_exceeded(chain: Chain, k: usize) -> bool
-    requires { ⌜ (k < 63) × (chain .«workspace_exponent» ≤ 63) ⌝ }
-    ensures { λ r. ⌜ r ≡ ltb (2 ^ chain .«workspace_exponent») (workspace (bondLeft chain k) (bondRight chain k) (bondRight chain (k + 1))) ⌝ }
+// The bonds of the sites k and k + 1, as the record has them.
+fn pair_bonds(chain: Chain, k: usize) -> Bonds
+    requires { ⌜ k < 63 ⌝ }
+    ensures { λ r. ⌜ r ≡ bondsOf chain k ⌝ }
+    ensures { λ r. ⌜ Bytes r ⌝ }
 {
-    let bl = wide(chain.bond_left[k]);
-    let mid = wide(chain.bond_right[k]);
-    let br = wide(chain.bond_right[k + 1]);
-    let allowed: usize = 1 << wide(chain.workspace_exponent);
-    allowed < 20 * bl * br + 2 * mid * br
+    Bonds {
+        left: wide(chain.bond_left[k]),
+        mid: wide(chain.bond_right[k]),
+        right: wide(chain.bond_right[k + 1]),
+    }
+}
+
+// Whether a cut of these bonds needs more numbers than the setting allows.
+fn workspace_exceeded(workspace_exponent: u8, bonds: Bonds) -> bool
+    requires { ⌜ («workspace_exponent» ≤ 63) × Bytes bonds ⌝ }
+    ensures { λ r. ⌜ r ≡ ltb (2 ^ «workspace_exponent») (workspace (bonds .left) (bonds .mid) (bonds .right)) ⌝ }
+{
+    let allowed: usize = 1 << wide(workspace_exponent);
+    allowed < 20 * bonds.left * bonds.right + 2 * bonds.mid * bonds.right
 }
 
 // Whether a cut of so many values can reach the cap, or drop values under a threshold where bonds have reached 128.
@@ -76,15 +86,12 @@ fn center_known(chain: Chain) -> bool
     }
 }
 
-// Whether a cut between sites k and k + 1 keeps a centre: one is recorded, or the cut can lose weight.
-fn keeps_center(chain: Chain, k: usize) -> bool
-    requires { ⌜ k < 63 ⌝ }
-    ensures { λ r. ⌜ r ≡ (known (chain .center) || canLose chain (cutRank (bondLeft chain k) (bondRight chain k) (bondRight chain (k + 1)))) ⌝ }
+// Whether a cut of these bonds keeps a centre: one is recorded, or the cut can lose weight.
+fn keeps_center(chain: Chain, bonds: Bonds) -> bool
+    requires { ⌜ Bytes bonds ⌝ }
+    ensures { λ r. ⌜ r ≡ (known (chain .center) || canLose chain (cutRank (bonds .left) (bonds .mid) (bonds .right))) ⌝ }
 {
-    let bl = wide(chain.bond_left[k]);
-    let mid = wide(chain.bond_right[k]);
-    let br = wide(chain.bond_right[k + 1]);
-    let values = smaller(2 * smaller(bl, br), 4 * mid);
+    let values = smaller(2 * smaller(bonds.left, bonds.right), 4 * bonds.mid);
     center_known(chain) | cut_can_lose(chain, values)
 }
 
@@ -97,59 +104,64 @@ fn decompose_pair(
     gate: [[Complex; 4]; 4],
     d: usize,
     k: usize,
-    bl: usize,
-    mid: usize,
-    br: usize,
+    bonds: Bonds,
     clamp: f64,
-) -> Factored
-    requires { ⌜ Pair d k bl mid br (now store) (now work) ⌝ }
-    ensures { λ r. ⌜ standing (shapeOf bl br) (now (work .exit)) (r .order) ≡ pairSvd clamp bl mid br gate (slotOf d k (now (store .entry))) (slotOf d (k + 1) (now (store .entry))) ⌝ }
-    ensures { λ r. ⌜ r .nan ≡ nanIn (pairSvd clamp bl mid br gate (slotOf d k (now (store .entry))) (slotOf d (k + 1) (now (store .entry)))) ⌝ }
-    ensures { λ r. ⌜ Below (shapeOf bl br .wide) (r .order) ⌝ }
+) -> Decomposed
+    requires { ⌜ Pair d k (bonds .left) (bonds .mid) (bonds .right) (now store) (now work) ⌝ }
+    ensures { λ r. ⌜ Made (bonds .left) (bonds .right) (pairSvd clamp (bonds .left) (bonds .mid) (bonds .right) gate (slotOf d k (now (store .entry))) (slotOf d (k + 1) (now (store .entry)))) (now (work .exit)) r ⌝ }
 {
     let slot = 4 * d * d;
     let a = k * slot;
     let b = a + slot;
     let s = (k + 1) * slot;
     let t = s + slot;
-    decompose(&store[a..b], &store[s..t], work, gate, bl, mid, br, clamp)
+    decompose(&store[a..b], &store[s..t], work, gate, bonds, clamp)
 }
 
-// The two sites of the decomposition, of which chi values are kept.
+// The two sites of the decomposition; the bond between them says how many values are kept.
 fn store_pair(
     store: &mut [f64],
     work: &[f64],
-    order: &[u8],
+    f: Decomposed,
     side: WeightSide,
     d: usize,
     k: usize,
-    bl: usize,
-    br: usize,
-    chi: usize,
+    bonds: Bonds,
 )
-    requires { ⌜ Pair d k bl chi br (now store) (now work) ⌝ }
-    requires { ⌜ (chi ≤ length (now order)) × Below (shapeOf bl br .wide) (now order) ⌝ }
-    ensures { λ _. ⌜ now (store .exit) ≡ withSite d (k + 1) (rightSite side chi br (standing (shapeOf bl br) (now (work .entry)) (now (order .entry)))) (withSite d k (leftSite side bl chi (standing (shapeOf bl br) (now (work .entry)) (now (order .entry)))) (now (store .entry))) ⌝ }
+    requires { ⌜ Pair d k (bonds .left) (bonds .mid) (bonds .right) (now store) (now work) ⌝ }
+    requires { ⌜ (f .shape ≡ shapeOf (bonds .left) (bonds .right)) × Stands (f .shape) (now work) (f .order) ⌝ }
+    ensures { λ _. ⌜ now (store .exit) ≡ withSite d (k + 1) (rightSite side (bonds .mid) (bonds .right) (standing (f .shape) (now (work .entry)) (f .order))) (withSite d k (leftSite side (bonds .left) (bonds .mid) (standing (f .shape) (now (work .entry)) (f .order))) (now (store .entry))) ⌝ }
 {
     let slot = 4 * d * d;
     let a = k * slot;
     let b = a + slot;
     let s = (k + 1) * slot;
     let t = s + slot;
-    store_left(&mut store[a..b], work, order, side, bl, br, chi);
-    store_right(&mut store[s..t], work, order, side, bl, br, chi);
+    let shape = f.shape;
+    store_left(&mut store[a..b], work, &f.order, shape, side, bonds);
+    store_right(&mut store[s..t], work, &f.order, shape, side, bonds);
+}
+
+// The weight discarded so far, with a cut's share added.
+fn add_share(discarded: f64, share: Share) -> f64
+    ensures { λ r. ⌜ r ≡ recorded discarded (sharesOf share) ⌝ }
+{
+    match share {
+        Share::Nothing => discarded,
+        Share::Of(x) => discarded + x,
+    }
 }
 
 // The record after a cut that kept chi values: bond, widest bond, discarded weight.
-fn record_cut(chain: Chain, k: usize, chi: usize, discarded: f64) -> Chain
+fn record_cut(chain: Chain, k: usize, chi: usize, share: Share) -> Chain
     requires { ⌜ (k < 63) × (chi ≤ 128) ⌝ }
-    ensures { λ r. ⌜ r ≡ recordedCut chain k chi discarded ⌝ }
+    ensures { λ r. ⌜ r ≡ recordedCut chain k chi (sharesOf share) ⌝ }
 {
     let mut out = chain;
     out.bond_left[k + 1] = chi as u8;
     out.bond_right[k] = chi as u8;
     out.bond_high_water = larger(chain.bond_high_water, chi);
-    out.truncation_discarded = discarded;
+    out.truncation_discarded = add_share(chain.truncation_discarded, share);
     out
 }
 
@@ -164,12 +176,19 @@ fn weight_site(side: WeightSide, k: usize) -> usize
     }
 }
 
+// How a cut leaves the pair: the side that carries the weight, and whether the centre is recorded there.
+struct Weight {
+    side: WeightSide,
+    maintained: bool,
+}
+
 // The centre on that site, if one is kept.
-fn center_after(chain: Chain, k: usize, maintained: bool, side: WeightSide) -> Chain
+fn center_after(chain: Chain, k: usize, weight: Weight) -> Chain
     requires { ⌜ k < 63 ⌝ }
-    ensures { λ r. ⌜ r ≡ withCenter chain (cond maintained (At (weightSite side k)) (chain .center)) ⌝ }
+    ensures { λ r. ⌜ r ≡ withCenter chain (cond (weight .maintained) (At (weightSite (weight .side) k)) (chain .center)) ⌝ }
 {
-    if maintained {
+    if weight.maintained {
+        let side = weight.side;
         let site = weight_site(side, k);
         Chain {
             center: Center::At(site),
@@ -194,18 +213,15 @@ fn cut_pair(
     work: &mut [f64],
     gate: [[Complex; 4]; 4],
     k: usize,
-    maintained: bool,
-    side: WeightSide,
+    bonds: Bonds,
+    weight: Weight,
 ) -> Cut
     requires { ⌜ Ready chain (now store) (now work) ⌝ }
-    requires { ⌜ k + 1 < chain .«num_qubits» ⌝ }
-    ensures { λ r. ⌜ tried (r .refused) (r .again) (held (r .chain) (now (store .exit))) ≡ cutWith gate k maintained (prepared side (held chain (now (store .entry)))) ⌝ }
+    requires { ⌜ (k + 1 < chain .«num_qubits») × (bonds ≡ bondsOf chain k) ⌝ }
+    ensures { λ r. ⌜ tried (r .refused) (r .again) (held (r .chain) (now (store .exit))) ≡ cutWith gate k (weight .maintained) (prepared (weight .side) (held chain (now (store .entry)))) ⌝ }
 {
     let d = chain.max_bond_dim;
-    let bl = wide(chain.bond_left[k]);
-    let mid = wide(chain.bond_right[k]);
-    let br = wide(chain.bond_right[k + 1]);
-    let f = decompose_pair(store, work, gate, d, k, bl, mid, br, chain.norm_clamp_min);
+    let f = decompose_pair(store, work, gate, d, k, bonds, chain.norm_clamp_min);
     if f.nan {
         return Cut {
             refused: 7,
@@ -213,29 +229,27 @@ fn cut_pair(
             chain,
         };
     }
-    let order = f.order;
-    let kept = kept_values(
-        work,
-        order,
-        bl,
-        br,
-        chain.svd_epsilon,
-        d,
-        chain.truncation_discarded,
-    );
-    if !maintained & kept.resolvable {
+    let kept = kept_values(work, f, chain.svd_epsilon, d);
+    if !weight.maintained & kept.resolvable {
         return Cut {
             refused: 0,
             again: true,
             chain,
         };
     }
-    store_pair(store, work, &order, side, d, k, bl, br, kept.chi);
-    let out = record_cut(chain, k, kept.chi, kept.discarded);
+    let after = Bonds {
+        left: bonds.left,
+        mid: kept.chi,
+        right: bonds.right,
+    };
+    let side = weight.side;
+    store_pair(store, work, f, side, d, k, after);
+    let share = kept.share;
+    let out = center_after(chain, k, weight);
     Cut {
         refused: 0,
         again: false,
-        chain: center_after(out, k, maintained, side),
+        chain: record_cut(out, k, kept.chi, share),
     }
 }
 
@@ -251,20 +265,30 @@ fn cut_adjacent_pair(
     requires { ⌜ k + 1 < chain .«num_qubits» ⌝ }
     ensures { λ r. ⌜ tried (r .refused) (r .again) (held (r .chain) (now (store .exit))) ≡ attempt gate k (held chain (now (store .entry))) ⌝ }
 {
-    if workspace_exceeded(chain, k) {
+    let bonds = pair_bonds(chain, k);
+    if workspace_exceeded(chain.workspace_exponent, bonds) {
         return Cut {
             refused: 6,
             again: false,
             chain,
         };
     }
-    if keeps_center(chain, k) {
+    if keeps_center(chain, bonds) {
         let p = prepare_center(chain, store, work, k);
         let ready = p.chain;
         let side = p.side;
-        cut_pair(ready, store, work, gate, k, true, side)
+        let weight = Weight {
+            side,
+            maintained: true,
+        };
+        let narrowed = pair_bonds(ready, k);
+        cut_pair(ready, store, work, gate, k, narrowed, weight)
     } else {
-        cut_pair(chain, store, work, gate, k, false, WeightSide::Right)
+        let weight = Weight {
+            side: WeightSide::Right,
+            maintained: false,
+        };
+        cut_pair(chain, store, work, gate, k, bonds, weight)
     }
 }
 

@@ -56,7 +56,7 @@ same-length : tie.Need-same-length
 same-length c = search needs
 
 returns : tie.Need-returns
-returns c = let e = c .before .before .decompose .ensures in (e .0, (e .1 .0, e .1 .1 .1))
+returns c = c .before .before .decompose .ensures
 
 pub decompose-pair-spec : {M : Type 1} → statement M
 decompose-pair-spec =

@@ -1,3 +1,4 @@
+-- The sum is that of the share.
 use borrow.Author.Needs.{needs}
 use Rattle.cuts.proofs.record_cut.Statement.{statement}
 use Rattle.cuts.proofs.record_cut.Tie as tie
@@ -20,8 +21,11 @@ element-write-out-2 c = search needs
 larger-requires : tie.Need-larger-requires
 larger-requires c κs = search needs
 
+add-share-requires : tie.Need-add-share-requires
+add-share-requires c κs = search needs
+
 returns : tie.Need-returns
-returns c = rw (c .larger .ensures)
+returns c = rw (c .before .larger .ensures, c .add-share .ensures)
 
 pub record-cut-spec : {M : Type 1} → statement M
 record-cut-spec =
@@ -33,4 +37,5 @@ record-cut-spec =
     cast-out-2
     element-write-out-2
     larger-requires
+    add-share-requires
     returns)

@@ -1,5 +1,5 @@
 use native.Mathlib.Omega.{arith}
-use Rattle.cuts.specs.Pair.{work-enough, left-fits, right-fits}
+use Rattle.cuts.specs.Pair.{left-fits, right-fits}
 use Rattle.moves.specs.Steps.{pair-written}
 use borrow.Author.Needs.{needs}
 use Rattle.cuts.proofs.store_pair.Statement.{statement}
@@ -39,7 +39,7 @@ part-store-left-end : tie.Need-part-store-left-end
 part-store-left-end c = search needs
 
 store-left-requires : tie.Need-store-left-requires
-store-left-requires c κs = let p = c .before .before .before .before .pre .0 in ((omega arith, omega arith, omega arith, left-fits _ _ _ _ _ _ _ p), (work-enough _ _ _ _ _ _ _ p, c .before .before .before .before .pre .1 .0, c .before .before .before .before .pre .1 .1))
+store-left-requires c κs = let p = c .before .before .before .before .before .before .before .pre .0 in ((omega arith, omega arith, left-fits _ _ _ _ _ _ _ p), (c .before .before .before .before .before .before .before .pre .1 .0, c .before .before .before .before .before .before .before .pre .1 .1, omega arith))
 
 mul-store-right : tie.Need-mul-store-right
 mul-store-right c = search needs
@@ -54,13 +54,13 @@ part-store-right-end : tie.Need-part-store-right-end
 part-store-right-end c = search needs
 
 store-right-requires : tie.Need-store-right-requires
-store-right-requires c κs = let p = c .before .before .before .before .before .before .before .before .pre .0 in ((omega arith, omega arith, omega arith, right-fits _ _ _ _ _ _ _ p (c .before .before .before .store-left .last .0) (c .before .before .before .store-left .kept .0)), (work-enough _ _ _ _ _ _ _ p, c .before .before .before .before .before .before .before .before .pre .1 .0, c .before .before .before .before .before .before .before .before .pre .1 .1))
+store-right-requires c κs = let p = c .before .before .before .before .before .before .before .before .before .before .before .before .before .before .pre .0 in ((omega arith, omega arith, right-fits _ _ _ _ _ _ _ p (c .before .before .before .before .before .before .store-left .last .0) (c .before .before .before .before .before .before .store-left .kept .0)), (c .before .before .before .before .before .before .before .before .before .before .before .before .before .before .pre .1 .0, c .before .before .before .before .before .before .before .before .before .before .before .before .before .before .pre .1 .1, omega arith))
 
 same-length : tie.Need-same-length
 same-length c = search needs
 
 returns : tie.Need-returns
-returns c = pair-written _ _ _ (c .before .before .before .before .before .before .before .before .before .before .before .pre .0 .store-room) (c .before .before .before .before .before .before .store-left .last .0) (c .before .before .before .before .before .before .store-left .kept .0) _ _ _ (c .before .before .before .before .before .before .store-left .ensures) (c .before .before .store-right .ensures)
+returns c = pair-written _ _ _ (c .before .before .before .before .before .before .before .before .before .before .before .before .before .before .before .before .before .pre .0 .store-room) (c .before .before .before .before .before .before .before .before .before .store-left .last .0) (c .before .before .before .before .before .before .before .before .before .store-left .kept .0) _ _ _ (c .before .before .before .before .before .before .before .before .before .store-left .ensures) (c .before .before .store-right .ensures)
 
 pub store-pair-spec : {M : Type 1} → statement M
 store-pair-spec =

@@ -2,22 +2,17 @@
 use mathlib.Core.Path.{_≡_, sym, ap, _∙_}
 use Prim.Native.Nat.{_≤_}
 use native.Mathlib.Omega.{arith}
-use lib.ListN.{length}
+use lib.ListN.{length, take}
 use lib.Seq.{length-take-le}
 use Rattle.complex.specs.Loops.{length-tabulate}
 use Rattle.model.specs.Svd.{values, valueAt}
-use Rattle.model.specs.Laws.SoundChanges.{cut-rank-most}
-use Rattle.cutting.specs.Shape.{shapeOf, room, standing, shape-wide}
-use Rattle.cutting.specs.Kept.{keptOf, rank-least, rank-length}
+use Rattle.model.specs.Laws.SoundChanges.{cut-rank-least, cut-rank-most}
+use Rattle.truncation.specs.Rank.{rank-within}
+use Rattle.cutting.specs.Shape.{room, standing}
+use Rattle.cutting.specs.Kept.{KeptOf}
 use borrow.Author.Needs.{needs}
 use Rattle.cutting.proofs.kept_values.Statement.{statement}
 use Rattle.cutting.proofs.kept_values.Tie as tie
-
-shape-of-requires : tie.Need-shape-of-requires
-shape-of-requires c κs = search needs
-
-first-value-requires : tie.Need-first-value-requires
-first-value-requires c κs = search needs
 
 add-end : tie.Need-add-end
 add-end c = search needs
@@ -26,36 +21,32 @@ mul-end : tie.Need-mul-end
 mul-end c = search needs
 
 slice-aggregate-sorted-values : tie.Need-slice-aggregate-sorted-values
-slice-aggregate-sorted-values c = rw (c .before .first-value .ensures .0, c .before .before .shape-of .ensures .0) (sym (length-take-le (room (shapeOf (c .before .before .before .before .args .bl) (c .before .before .before .before .args .br))) (c .before .before .before .before .args .work .now) (c .before .before .before .before .pre .1 .0)))
+slice-aggregate-sorted-values c = let a = c .before .before .before .before .before .args in let h = c .before .before .before .before .before .pre .1 in rw (h .first) (sym (length-take-le (room (a .d .shape)) (a .work .now) (h .fits)))
 
 sorted-values-requires : tie.Need-sorted-values-requires
-sorted-values-requires c κs = let l = length-take-le (room (shapeOf (c .before .before .before .before .args .bl) (c .before .before .before .before .args .br))) (c .before .before .before .before .args .work .now) (c .before .before .before .before .pre .1 .0) in
-    (omega (arith, c .before .before .shape-of .ensures .1), rw (c .before .first-value .ensures .0, c .before .before .shape-of .ensures .0) (omega arith), rw (c .before .before .shape-of .ensures .0) (c .before .before .before .before .pre .1 .1))
+sorted-values-requires c κs = let a = c .before .before .before .before .before .args in let h = c .before .before .before .before .before .pre .1 in let l = length-take-le (room (a .d .shape)) (a .work .now) (h .fits) in (h .columns, rw (h .first) (omega arith), h .below)
 
 array-share-prefix-all : tie.Need-array-share-prefix-all
 array-share-prefix-all c = search needs
 
 slice-aggregate-keep : tie.Need-slice-aggregate-keep
-slice-aggregate-keep c = sym (ap length (c .before .sorted-values .ensures) ∙ length-tabulate (c .before .before .before .before .shape-of .result .wide) _)
+slice-aggregate-keep c = sym (ap length (c .before .sorted-values .ensures) ∙ length-tabulate (c .before .before .before .before .before .before .before .args .d .shape .wide) _)
 
 keep-requires : tie.Need-keep-requires
 keep-requires c κs = search needs
 
 returns : tie.Need-returns
 unfolding values
-returns c = let a = c .before .before .before .before .before .before .before .args in let d = standing (shapeOf (a .bl) (a .br)) (a .work .now) (a .order) in
-    let e : c .keep .result ≡ keptOf (a .epsilon) (a .max-bond-dim) (a .discarded) (values d) = rw (c .keep .ensures, c .before .before .sorted-values .ensures, c .before .before .before .before .first-value .ensures .0, c .before .before .before .before .before .shape-of .ensures .0) in
-    let n : length (values d) ≡ shapeOf (a .bl) (a .br) .wide = length-tabulate (d .wide) (valueAt d) in
-    let w = shape-wide (a .bl) (a .br) in
-    let h : 1 ≤ length (values d) = omega (arith, c .before .before .before .before .before .before .before .pre .0) in
-    (e, rw e (rank-least (a .epsilon) (a .max-bond-dim) (values d) (c .before .before .before .before .before .before .before .pre .0 .4), cut-rank-most (a .epsilon) (a .max-bond-dim) (values d), omega (arith, rank-length (a .epsilon) (a .max-bond-dim) (values d) h)))
+returns c = let a = c .before .before .before .before .before .before .before .before .args in let d = standing (a .d .shape) (a .work .now) (a .d .order) in
+    let e : KeptOf (a .epsilon) (a .max-bond-dim) (values d) (c .keep .result) = rw (c .before .before .sorted-values .ensures, c .before .before .before .before .before .before .before .before .pre .1 .first) at (c .keep .ensures) in
+    let n : length (values d) ≡ a .d .shape .wide = length-tabulate (d .wide) (valueAt d) in
+    let h : 1 ≤ length (values d) = omega (arith, c .before .before .before .before .before .before .before .before .pre .1 .some) in
+    (e, rw (e .rank) (cut-rank-least (a .epsilon) (a .max-bond-dim) (values d) (c .before .before .before .before .before .before .before .before .pre .0), cut-rank-most (a .epsilon) (a .max-bond-dim) (values d), omega (arith, rank-within (a .epsilon) (a .max-bond-dim) (values d) h)))
 
 pub kept-values-spec : {M : Type 1} → statement M
 kept-values-spec =
     tie.close
     (tie.spec
-    shape-of-requires
-    first-value-requires
     add-end
     mul-end
     slice-aggregate-sorted-values
