@@ -18,7 +18,7 @@ quick() {
 
 # An edit that only makes a proof file unfit for the code shows nothing.
 refused_for_a_fact() { # FOLDER OF LOGS
-    if grep -rlE --include=.log 'has no (`Need-|field `before`)' "$1"; then
+    if grep -rlE --include=.log 'has no (`Need-|field `)|error: `(Inv|μ)-' "$1"; then
         echo 'the edits above are refused for their shape, and not because a fact fails'
         exit 1
     fi
