@@ -25,10 +25,13 @@ def edits():
 
 
 def defined():
-    """Every name that a file of specs/ defines, with its file: a definition before a law of the same name."""
+    """The definitions, laws and promises of specs/, by name, each with its files: a definition before a law of the same name."""
     names = {}
     for path in sorted(CRATES.glob("*/specs/**/*.antt"), key=lambda p: ("Laws" in p.parts, p)):
-        for name in re.findall(r"^ *(?:abbrev |unfoldable )?(?:pub )?(?:record |data )?([^\s:(){}]+) .*?:", path.read_text(), re.M):
+        text = path.read_text()
+        promised = re.search(r"^pub record Promised .*\n((?:  .*\n|\n)*)", text, re.M)
+        fields = re.findall(r"^  pub (\S+) :", promised.group(1), re.M) if promised else []
+        for name in fields + re.findall(r"^(?:abbrev |unfoldable )?(?:pub )?(?:record |data )?([^\s:(){}]+) .*?:", text, re.M):
             names.setdefault(name, []).append(path.relative_to(CRATES))
     return names
 
