@@ -13,7 +13,7 @@ use Rattle.model.specs.declared.Chain.{Chain}
 use Rattle.model.specs.declared.Center.the-variants.{At}
 use Rattle.model.specs.declared.WeightSide.{WeightSide}
 use Rattle.model.specs.declared.WeightSide.the-variants.{Right}
-use Rattle.model.specs.Chain.{withCenter, siteOf, qubitAt}
+use Rattle.model.specs.Chain.{siteOf, qubitAt}
 use Rattle.model.specs.Slots.{State, held, lefts, rights, siteAt, withSite}
 use Rattle.model.specs.Svd.{Svd, values}
 use Rattle.model.specs.Truncation.{rank, resolvable, share, cutRank, workspace}
@@ -114,7 +114,7 @@ module _ (gate : List (List Complex)) (k : ℕ) (s : State) (b : Bonds) (eb : b 
 
       pub cut-stored : not maintained && kept .resolvable ≡ false
           → tried 0 false
-          (held (recordedCut (withCenter (s .chain) (cond maintained (At (weightSite side k)) (s .chain .center))) k (kept .chi) (sharesOf (kept .share)))
+          (held (recordedCut (s .chain) k (kept .chi) (sharesOf (kept .share)) (cond maintained (At (weightSite side k)) (s .chain .center)))
           (withSite (s .chain .«max_bond_dim») (k + 1) (rightSite side (kept .chi) (b .right) (standing (r .shape) w (r .order)))
           (withSite (s .chain .«max_bond_dim») k (leftSite side (b .left) (kept .chi) (standing (r .shape) w (r .order))) (s .store))))
           ≡ cutWith gate k maintained (prepared side s)
@@ -137,9 +137,9 @@ module _ (gate : List (List Complex)) (k : ℕ) (s : State) (b : Bonds) (eb : b 
   unfolding attempt
   attempt-above e = rw (rw eb at e)
 
-  pub attempt-kept : (p : Prepared) (t : Tried) → above s b ≡ false → keeps s b ≡ true → p ≡ preparedOn k (s .chain .center) s → t ≡ cutWith gate k true p → t ≡ attempt gate k s
+  pub attempt-kept : (t : Tried) → above s b ≡ false → keeps s b ≡ true → t ≡ cutWith gate k true (preparedOn k (s .chain .center) s) → t ≡ attempt gate k s
   unfolding attempt
-  attempt-kept p t a e f g = rw (rw eb at a, rw eb at e) (g ∙ ap (cutWith gate k true) f)
+  attempt-kept t a e g = rw (rw eb at a, rw eb at e) g
 
   pub attempt-bare : (t : Tried) → above s b ≡ false → keeps s b ≡ false → t ≡ cutWith gate k false (prepared Right s) → t ≡ attempt gate k s
   unfolding attempt
@@ -147,11 +147,14 @@ module _ (gate : List (List Complex)) (k : ℕ) (s : State) (b : Bonds) (eb : b 
 
 -- ---- made again at most once
 
+abbrev pub ranOf : Tried → Ran
+ranOf t = ran (t .refused) (t .state)
+
 module _ (gate : List (List Complex)) (k : ℕ) (s : State) (t : Tried) (e : t ≡ attempt gate k s) where
-  pub adjacent-once : t .again ≡ false → ran (t .refused) (t .state) ≡ adjacent gate k s
+  pub adjacent-once : t .again ≡ false → ranOf t ≡ adjacent gate k s
   unfolding adjacent
   adjacent-once z = rw (← e, z)
 
-  pub adjacent-twice : (u : Tried) → t .again ≡ true → u ≡ attempt gate k (established k (t .state)) → ran (u .refused) (u .state) ≡ adjacent gate k s
+  pub adjacent-twice : (u : Ran) → t .again ≡ true → u ≡ ranOf (attempt gate k (established k (t .state))) → u ≡ adjacent gate k s
   unfolding adjacent
-  adjacent-twice u z f = rw (← e, z, ← f)
+  adjacent-twice u z f = rw (← e, z) f

@@ -9,7 +9,8 @@ use lib.Ieee.{Float}
 use Rattle.complex.specs.Numbers.{count}
 use Rattle.complex.specs.Parts.{put}
 use Rattle.model.specs.declared.Chain.{Chain}
-use Rattle.model.specs.Chain.{bondLeft, bondRight, withBond, withTruncation}
+use Rattle.model.specs.declared.Center.{Center}
+use Rattle.model.specs.Chain.{bondLeft, bondRight, withCenter, withBond, withTruncation}
 use Rattle.model.specs.Truncation.{recorded}
 use Rattle.model.specs.Slots.{slotRoom, slotOf}
 use Rattle.cutting.specs.Shape.{shapeOf, room, room-fits}
@@ -27,9 +28,9 @@ pub record Bytes (b : Bonds) : Type 0 where
   pub mid : b .mid ≤ 255
   pub right : b .right ≤ 255
 
--- the bond, the widest bond so far, and the weight discarded so far, with a cut's shares added
-abbrev pub recordedCut : Chain → ℕ → ℕ → List Float → Chain
-recordedCut c k chi shares = withTruncation (withBond c k chi) (max (c .«bond_high_water») chi) (recorded (c .«truncation_discarded») shares)
+-- the bond, the widest bond so far, the weight discarded so far, with a cut's shares added, and the centre
+abbrev pub recordedCut : Chain → ℕ → ℕ → List Float → Center → Chain
+recordedCut c k chi shares at = withCenter (withTruncation (withBond c k chi) (max (c .«bond_high_water») chi) (recorded (c .«truncation_discarded») shares)) at
 
 -- a shift of 1, as the machine has it
 pub shifted : (e : ℕ) → e ≤ 63 → 1 * 2 ^ e % 18446744073709551616 ≡ 2 ^ e

@@ -5,7 +5,7 @@ use mathlib.Core.Bool.{Bool, true, false, cond}
 use mathlib.Core.List.{List, [], _∷_, _++_, map}
 use native.Mathlib.Omega.{arith}
 use lib.Dec.{eqb, ltb}
-use borrow.Author.Tests.{eq-eqb, ne-eqb, eqb-true, lt-ltb, le-ltb}
+use borrow.Author.Tests.{eq-eqb, ne-eqb, eqb-true}
 use Rattle.complex.specs.declared.Complex.{Complex}
 use Rattle.gates.specs.Gate.{swapGateQubits}
 use Rattle.gates.specs.Named.{matrixOf}
@@ -107,10 +107,5 @@ module _ (gate : List (List Complex)) (q0 q1 : ℕ) (s : State) (p q : ℕ) (e :
   unfolding gateRun routedGate
   run-routed near m g eg en em = rw (eg, en, em, e, f)
 
-  -- the first qubit stands left
-  pub run-straight : p < q → routedGate gate p (q - (p + 1)) s ≡ gateRun gate q0 q1 s
-  run-straight l = run-routed p (q - (p + 1)) gate (ap (λ (t : Bool). cond t gate (swapGateQubits gate)) (sym (lt-ltb p q l))) (omega arith) (omega arith)
-
-  -- the second stands left, and g is the gate with its qubits exchanged
-  pub run-turned : (g : List (List Complex)) → g ≡ swapGateQubits gate → q < p → routedGate g q (p - (q + 1)) s ≡ gateRun gate q0 q1 s
-  run-turned g eg l = let m : q ≤ p = omega arith in run-routed q (p - (q + 1)) g (eg ∙ ap (λ (t : Bool). cond t gate (swapGateQubits gate)) (sym (le-ltb p q m))) (omega arith) (omega arith)
+  pub run-between : (near far : ℕ) (g : List (List Complex)) → g ≡ cond (ltb p q) gate (swapGateQubits gate) → near ≡ min p q → far ≡ max p q → routedGate g near (far - (near + 1)) s ≡ gateRun gate q0 q1 s
+  run-between near far g eg en ef = run-routed near (far - (near + 1)) g eg en (omega arith)

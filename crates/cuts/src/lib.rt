@@ -19,23 +19,25 @@ use pair::Bonds;
 use truncation::Share;
 ghost use mathlib.Core.Path.{_≡_};
 ghost use mathlib.Core.Logic.{_≢_};
-ghost use mathlib.Core.Bool.{_||_, cond};
+ghost use mathlib.Core.Bool.{true, _||_, cond};
 ghost use Prim.Native.Nat.{_+_, _-_, _^_, _<_, _≤_};
 ghost use lib.Dec.{ltb};
-ghost use Rattle.model.specs.Chain.{withCenter};
+ghost use Rattle.gates.specs.Gate.{swapGateQubits};
 ghost use Rattle.model.specs.Slots.{held, slotOf, withSite};
 ghost use Rattle.model.specs.Truncation.{recorded, cutRank, workspace};
 ghost use Rattle.model.specs.Pair.{pairSvd, leftSite, rightSite};
-ghost use Rattle.model.specs.Moves.{prepared, established};
+ghost use Rattle.model.specs.Moves.{prepared, preparedOn, established};
 ghost use Rattle.model.specs.declared.Center.the-variants.{At};
 ghost use Rattle.model.specs.Cut.{known, canLose, tried, weightSite, cutWith, attempt, ran, adjacent};
 ghost use Rattle.model.specs.Routing.{relabelled, swapStep, stepped, gateRun};
+ghost use Rattle.model.specs.Statements.Pinned.{keepsCentre};
 ghost use Rattle.model.specs.Statements.Soundness.{Sound};
 ghost use Rattle.truncation.specs.Shares.{sharesOf};
 ghost use Rattle.cutting.specs.Shape.{shapeOf, standing, Stands, Made};
 ghost use Rattle.moves.specs.Ready.{Ready};
 ghost use Rattle.moves.specs.Steps.{Pair};
 ghost use Rattle.cuts.specs.Pair.{bondsOf, Bytes, recordedCut};
+ghost use Rattle.cuts.specs.Attempts.{ranOf};
 ghost use Rattle.cuts.specs.Runs.{swapsDown, routedGate};
 
 fn wide(x: u8) -> usize
@@ -152,19 +154,6 @@ fn add_share(discarded: f64, share: Share) -> f64
     }
 }
 
-// The record after a cut that kept chi values: bond, widest bond, discarded weight.
-fn record_cut(chain: Chain, k: usize, chi: usize, share: Share) -> Chain
-    requires { ⌜ (k < 63) × (chi ≤ 128) ⌝ }
-    ensures { λ r. ⌜ r ≡ recordedCut chain k chi (sharesOf share) ⌝ }
-{
-    let mut out = chain;
-    out.bond_left[k + 1] = chi as u8;
-    out.bond_right[k] = chi as u8;
-    out.bond_high_water = larger(chain.bond_high_water, chi);
-    out.truncation_discarded = add_share(chain.truncation_discarded, share);
-    out
-}
-
 // The site of the pair that carries the weight.
 fn weight_site(side: WeightSide, k: usize) -> usize
     requires { ⌜ k < 63 ⌝ }
@@ -182,21 +171,32 @@ struct Weight {
     maintained: bool,
 }
 
-// The centre on that site, if one is kept.
-fn center_after(chain: Chain, k: usize, weight: Weight) -> Chain
+// The centre after a cut: on that site if one is kept, else as it was.
+fn center_after(center: Center, k: usize, weight: Weight) -> Center
     requires { ⌜ k < 63 ⌝ }
-    ensures { λ r. ⌜ r ≡ withCenter chain (cond (weight .maintained) (At (weightSite (weight .side) k)) (chain .center)) ⌝ }
+    ensures { λ r. ⌜ r ≡ cond (weight .maintained) (At (weightSite (weight .side) k)) center ⌝ }
 {
     if weight.maintained {
         let side = weight.side;
-        let site = weight_site(side, k);
-        Chain {
-            center: Center::At(site),
-            ..chain
-        }
+        Center::At(weight_site(side, k))
     } else {
-        chain
+        center
     }
+}
+
+// The record after a cut that kept chi values: bond, widest bond, discarded weight, centre.
+fn record_cut(chain: Chain, k: usize, chi: usize, share: Share, weight: Weight) -> Chain
+    requires { ⌜ (k < 63) × (chi ≤ 128) ⌝ }
+    ensures { λ r. ⌜ r ≡ recordedCut chain k chi (sharesOf share) (cond (weight .maintained) (At (weightSite (weight .side) k)) (chain .center)) ⌝ }
+{
+    let before = chain.center;
+    let center = center_after(before, k, weight);
+    let mut out = Chain { center, ..chain };
+    out.bond_left[k + 1] = chi as u8;
+    out.bond_right[k] = chi as u8;
+    out.bond_high_water = larger(chain.bond_high_water, chi);
+    out.truncation_discarded = add_share(chain.truncation_discarded, share);
+    out
 }
 
 // What an attempt leaves: the number that refused it, 0 for none; whether it is to be made again with a centre; the chain.
@@ -245,15 +245,37 @@ fn cut_pair(
     let side = weight.side;
     store_pair(store, work, f, side, d, k, after);
     let share = kept.share;
-    let out = center_after(chain, k, weight);
     Cut {
         refused: 0,
         again: false,
-        chain: record_cut(out, k, kept.chi, share),
+        chain: record_cut(chain, k, kept.chi, share, weight),
     }
 }
 
-// One attempt: refused by 6 above the workspace, else the cut, with the centre brought onto the pair where one is kept.
+// The cut with the centre brought onto the pair first, which can narrow its bonds.
+fn cut_centered(
+    chain: Chain,
+    store: &mut [f64],
+    work: &mut [f64],
+    gate: [[Complex; 4]; 4],
+    k: usize,
+) -> Cut
+    requires { ⌜ Ready chain (now store) (now work) ⌝ }
+    requires { ⌜ (k + 1 < chain .«num_qubits») × (keepsCentre k (held chain (now store)) ≡ true) ⌝ }
+    ensures { λ r. ⌜ tried (r .refused) (r .again) (held (r .chain) (now (store .exit))) ≡ cutWith gate k true (preparedOn k (chain .center) (held chain (now (store .entry)))) ⌝ }
+{
+    let p = prepare_center(chain, store, work, k);
+    let ready = p.chain;
+    let side = p.side;
+    let bonds = pair_bonds(ready, k);
+    let weight = Weight {
+        side,
+        maintained: true,
+    };
+    cut_pair(ready, store, work, gate, k, bonds, weight)
+}
+
+// One attempt: refused by 6 above the workspace, else the cut, with a centre where one is kept.
 fn cut_adjacent_pair(
     chain: Chain,
     store: &mut [f64],
@@ -274,15 +296,7 @@ fn cut_adjacent_pair(
         };
     }
     if keeps_center(chain, bonds) {
-        let p = prepare_center(chain, store, work, k);
-        let ready = p.chain;
-        let side = p.side;
-        let weight = Weight {
-            side,
-            maintained: true,
-        };
-        let narrowed = pair_bonds(ready, k);
-        cut_pair(ready, store, work, gate, k, narrowed, weight)
+        cut_centered(chain, store, work, gate, k)
     } else {
         let weight = Weight {
             side: WeightSide::Right,
@@ -300,6 +314,16 @@ pub struct Run {
     pub chain: Chain,
 }
 
+fn run_of(cut: Cut) -> Run
+    ensures { λ r. ⌜ (r .refused ≡ cut .refused) × (r .chain ≡ cut .chain) ⌝ }
+{
+    let chain = cut.chain;
+    Run {
+        refused: cut.refused,
+        chain,
+    }
+}
+
 // The second attempt, after a centre is established.
 fn cut_again(
     chain: Chain,
@@ -307,13 +331,14 @@ fn cut_again(
     work: &mut [f64],
     gate: [[Complex; 4]; 4],
     k: usize,
-) -> Cut
+) -> Run
     requires { ⌜ Ready chain (now store) (now work) ⌝ }
     requires { ⌜ k + 1 < chain .«num_qubits» ⌝ }
-    ensures { λ r. ⌜ tried (r .refused) (r .again) (held (r .chain) (now (store .exit))) ≡ attempt gate k (established k (held chain (now (store .entry)))) ⌝ }
+    ensures { λ r. ⌜ ran (r .refused) (held (r .chain) (now (store .exit))) ≡ ranOf (attempt gate k (established k (held chain (now (store .entry))))) ⌝ }
 {
     let out = establish_center(chain, store, work, k);
-    cut_adjacent_pair(out, store, work, gate, k)
+    let second = cut_adjacent_pair(out, store, work, gate, k);
+    run_of(second)
 }
 
 fn apply_adjacent_two_qubit(
@@ -328,19 +353,11 @@ fn apply_adjacent_two_qubit(
     ensures { λ r. ⌜ ran (r .refused) (held (r .chain) (now (store .exit))) ≡ adjacent gate k (held chain (now (store .entry))) ⌝ }
 {
     let first = cut_adjacent_pair(chain, store, work, gate, k);
-    let found = first.chain;
     if first.again {
-        let second = cut_again(found, store, work, gate, k);
-        let out = second.chain;
-        Run {
-            refused: second.refused,
-            chain: out,
-        }
+        let found = first.chain;
+        cut_again(found, store, work, gate, k)
     } else {
-        Run {
-            refused: first.refused,
-            chain: found,
-        }
+        run_of(first)
     }
 }
 
@@ -424,6 +441,13 @@ fn route_gate(
     apply_adjacent_two_qubit(out, store, work, gate, near)
 }
 
+// The gate for qubits at the sites p and q, the left one first.
+fn gate_between(gate: [[Complex; 4]; 4], p: usize, q: usize) -> [[Complex; 4]; 4]
+    ensures { λ r. ⌜ r ≡ cond (ltb p q) gate (swapGateQubits gate) ⌝ }
+{
+    if p < q { gate } else { swap_gate_qubits(gate) }
+}
+
 // The gate on the qubits q0 and q1.
 pub fn apply_two_qubit_gate(
     chain: Chain,
@@ -439,10 +463,6 @@ pub fn apply_two_qubit_gate(
 {
     let p = wide(chain.logical_to_site[q0]);
     let q = wide(chain.logical_to_site[q1]);
-    if p < q {
-        route_gate(chain, store, work, gate, p, q)
-    } else {
-        let turned = swap_gate_qubits(gate);
-        route_gate(chain, store, work, turned, q, p)
-    }
+    let turned = gate_between(gate, p, q);
+    route_gate(chain, store, work, turned, smaller(p, q), larger(p, q))
 }

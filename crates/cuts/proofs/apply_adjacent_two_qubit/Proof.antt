@@ -11,6 +11,9 @@ cut-again-requires : tie.Need-cut-again-requires
 cut-again-requires c κs = let x = tried-keeps _ _ _ _ (c .before .before .before .before .before .before .before .before .before .before .before .before .before .pre .0 .sound) _ (c .before .before .before .before .before .before .before .before .before .before .before .before .before .pre .1) _ _ _ (c .before .before .before .before .before .before .before .before .cut-adjacent-pair .ensures) in
     (ready-keeps _ _ _ _ _ _ (c .before .before .before .before .before .before .before .before .before .before .before .before .before .pre .0) x (c .before .before .before .before .before .before .before .before .cut-adjacent-pair .kept .1 .0) (c .before .before .before .before .before .before .before .before .cut-adjacent-pair .kept .1 .1 .0), omega (arith, x .qubits, c .before .before .before .before .before .before .before .before .before .before .before .before .before .pre .1))
 
+run-of-requires : tie.Need-run-of-requires
+run-of-requires c κs = search needs
+
 same-length : tie.Need-same-length
 same-length c = search needs
 
@@ -18,7 +21,7 @@ same-length-2 : tie.Need-same-length-2
 same-length-2 c = search needs
 
 returns : tie.Need-returns
-returns c = adjacent-twice _ _ _ _ (c .before .before .before .before .before .before .before .before .before .before .before .before .before .before .cut-adjacent-pair .ensures) _ (c .before .before .before .before .before .before .before .before .if1 .taken) (c .before .before .before .before .before .cut-again .ensures)
+returns c = adjacent-twice _ _ _ _ (c .before .before .before .before .before .before .before .before .before .before .before .before .before .cut-adjacent-pair .ensures) _ (c .before .before .before .before .before .before .before .before .if1 .taken) (c .before .before .before .before .cut-again .ensures)
 
 same-length-3 : tie.Need-same-length-3
 same-length-3 c = search needs
@@ -27,7 +30,7 @@ same-length-4 : tie.Need-same-length-4
 same-length-4 c = search needs
 
 returns-2 : tie.Need-returns-2
-returns-2 c = adjacent-once _ _ _ _ (c .before .before .before .before .before .before .cut-adjacent-pair .ensures) (c .if1 .left)
+returns-2 c = rw (c .run-of .ensures .0, c .run-of .ensures .1) (adjacent-once _ _ _ _ (c .before .before .before .before .before .before .cut-adjacent-pair .ensures) (c .before .if1 .left))
 
 pub apply-adjacent-two-qubit-spec : {M : Type 1} → statement M
 apply-adjacent-two-qubit-spec =
@@ -35,6 +38,7 @@ apply-adjacent-two-qubit-spec =
     (tie.spec
     cut-adjacent-pair-requires
     cut-again-requires
+    run-of-requires
     same-length
     same-length-2
     returns

@@ -1,3 +1,4 @@
+-- By the test.
 use borrow.Author.Needs.{needs}
 use Rattle.cuts.proofs.center_after.Statement.{statement}
 use Rattle.cuts.proofs.center_after.Tie as tie
@@ -6,7 +7,7 @@ weight-site-requires : tie.Need-weight-site-requires
 weight-site-requires c κs = search needs
 
 returns : tie.Need-returns
-returns c = rw (c .before .before .before .before .before .before .if1 .taken, c .before .before .before .before .before .weight-site .ensures)
+returns c = rw (c .before .if1 .taken, c .weight-site .ensures)
 
 returns-2 : tie.Need-returns-2
 returns-2 c = rw (c .if1 .left)

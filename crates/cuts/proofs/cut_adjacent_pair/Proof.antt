@@ -1,13 +1,13 @@
 use mathlib.Core.Path.{sym, _∙_}
 use native.Mathlib.Omega.{arith}
 use Rattle.model.specs.Slots.{held}
-use Rattle.cuts.specs.Attempts.{ready-keeps, prepared-keeps, keeps-centre, attempt-above, attempt-kept, attempt-bare}
+use Rattle.cuts.specs.Attempts.{keeps-centre, attempt-above, attempt-kept, attempt-bare}
 use borrow.Author.Needs.{needs}
 use Rattle.cuts.proofs.cut_adjacent_pair.Statement.{statement}
 use Rattle.cuts.proofs.cut_adjacent_pair.Tie as tie
 
 pair-bonds-requires : tie.Need-pair-bonds-requires
-pair-bonds-requires c κs = search needs
+pair-bonds-requires c κs = omega (arith, c .before .before .pre .1, c .before .before .pre .0 .sound .settings .qubits .1)
 
 workspace-exceeded-requires : tie.Need-workspace-exceeded-requires
 workspace-exceeded-requires c κs = (c .before .before .before .pre .0 .sound .settings .exponent-range, c .pair-bonds .ensures .1)
@@ -18,18 +18,11 @@ returns c = attempt-above _ _ _ _ (c .before .before .pair-bonds .ensures .0) (s
 keeps-center-requires : tie.Need-keeps-center-requires
 keeps-center-requires c κs = c .before .before .pair-bonds .ensures .1
 
-prepare-center-requires : tie.Need-prepare-center-requires
-prepare-center-requires c κs = search needs
-
-pair-bonds-requires-2 : tie.Need-pair-bonds-requires-2
-pair-bonds-requires-2 c κs = omega (arith, c .before .before .before .before .before .before .before .before .before .before .before .before .before .before .before .pre .1, c .before .before .before .before .before .before .before .before .before .before .before .before .before .before .before .pre .0 .sound .settings .qubits .1)
+cut-centered-requires : tie.Need-cut-centered-requires
+cut-centered-requires c κs = let a = c .before .before .before .before .before .before .before .before .before .args in (c .before .before .before .before .before .before .before .before .before .pre .0, (c .before .before .before .before .before .before .before .before .before .pre .1, keeps-centre (a .k) (held (a .chain) (a .store .now)) (c .before .before .before .before .before .before .pair-bonds .result) (c .before .before .before .before .before .before .pair-bonds .ensures .0) (sym (c .before .before .before .keeps-center .ensures) ∙ c .before .before .if2 .taken)))
 
 cut-pair-requires : tie.Need-cut-pair-requires
-cut-pair-requires c κs = let a = c .before .before .before .before .before .before .before .before .before .before .before .before .before .before .before .before .before .before .args in let h = c .before .before .before .before .before .before .before .before .before .before .before .before .before .before .before .before .before .before .pre in let x = prepared-keeps _ _ _ _ (h .0 .sound) _ (h .1) _ (keeps-centre (a .k) (held (a .chain) (a .store .now)) (c .before .before .before .before .before .before .before .before .before .before .before .before .before .before .before .pair-bonds .result) (c .before .before .before .before .before .before .before .before .before .before .before .before .before .before .before .pair-bonds .ensures .0) (sym (c .before .before .before .before .before .before .before .before .before .before .before .before .keeps-center .ensures) ∙ c .before .before .before .before .before .before .before .before .before .before .before .if2 .taken)) (c .before .before .before .before .before .before .before .before .prepare-center .ensures) in
-    (ready-keeps _ _ _ _ _ _ (h .0) x (c .before .before .before .before .before .before .before .before .prepare-center .kept .1 .0) (c .before .before .before .before .before .before .before .before .prepare-center .kept .1 .1 .0), (omega (arith, x .qubits, h .1), c .before .before .pair-bonds2 .ensures .0))
-
-cut-pair-requires-2 : tie.Need-cut-pair-requires-2
-cut-pair-requires-2 c κs = (c .before .before .before .before .before .before .before .before .before .pre .0, (c .before .before .before .before .before .before .before .before .before .pre .1, c .before .before .before .before .before .before .pair-bonds .ensures .0))
+cut-pair-requires c κs = (c .before .before .before .before .before .before .before .before .before .pre .0, (c .before .before .before .before .before .before .before .before .before .pre .1, c .before .before .before .before .before .before .pair-bonds .ensures .0))
 
 same-length : tie.Need-same-length
 same-length c = search needs
@@ -38,7 +31,7 @@ same-length-2 : tie.Need-same-length-2
 same-length-2 c = search needs
 
 returns-2 : tie.Need-returns-2
-returns-2 c = attempt-kept _ _ _ _ (c .before .before .before .before .before .before .before .before .before .before .before .before .before .before .before .before .before .before .before .before .pair-bonds .ensures .0) _ _ (sym (c .before .before .before .before .before .before .before .before .before .before .before .before .before .before .before .before .before .before .before .workspace-exceeded .ensures) ∙ c .before .before .before .before .before .before .before .before .before .before .before .before .before .before .before .before .before .before .if1 .left) (sym (c .before .before .before .before .before .before .before .before .before .before .before .before .before .before .before .before .before .keeps-center .ensures) ∙ c .before .before .before .before .before .before .before .before .before .before .before .before .before .before .before .before .if2 .taken) (c .before .before .before .before .before .before .before .before .before .before .before .before .before .prepare-center .ensures) (c .before .before .before .before .cut-pair .ensures)
+returns-2 c = attempt-kept _ _ _ _ (c .before .before .before .before .before .before .before .before .before .before .before .pair-bonds .ensures .0) _ (sym (c .before .before .before .before .before .before .before .before .before .before .workspace-exceeded .ensures) ∙ c .before .before .before .before .before .before .before .before .before .if1 .left) (sym (c .before .before .before .before .before .before .before .before .keeps-center .ensures) ∙ c .before .before .before .before .before .before .before .if2 .taken) (c .before .before .before .before .cut-centered .ensures)
 
 same-length-3 : tie.Need-same-length-3
 same-length-3 c = search needs
@@ -47,7 +40,7 @@ same-length-4 : tie.Need-same-length-4
 same-length-4 c = search needs
 
 returns-3 : tie.Need-returns-3
-returns-3 c = attempt-bare _ _ _ _ (c .before .before .before .before .before .before .before .before .before .before .before .pair-bonds .ensures .0) _ (sym (c .before .before .before .before .before .before .before .before .before .before .workspace-exceeded .ensures) ∙ c .before .before .before .before .before .before .before .before .before .if1 .left) (sym (c .before .before .before .before .before .before .before .before .keeps-center .ensures) ∙ c .before .before .before .before .before .before .before .if2 .left) (c .before .before .before .before .cut-pair2 .ensures)
+returns-3 c = attempt-bare _ _ _ _ (c .before .before .before .before .before .before .before .before .before .before .before .pair-bonds .ensures .0) _ (sym (c .before .before .before .before .before .before .before .before .before .before .workspace-exceeded .ensures) ∙ c .before .before .before .before .before .before .before .before .before .if1 .left) (sym (c .before .before .before .before .before .before .before .before .keeps-center .ensures) ∙ c .before .before .before .before .before .before .before .if2 .left) (c .before .before .before .before .cut-pair .ensures)
 
 pub cut-adjacent-pair-spec : {M : Type 1} → statement M
 cut-adjacent-pair-spec =
@@ -57,10 +50,8 @@ cut-adjacent-pair-spec =
     workspace-exceeded-requires
     returns
     keeps-center-requires
-    prepare-center-requires
-    pair-bonds-requires-2
+    cut-centered-requires
     cut-pair-requires
-    cut-pair-requires-2
     same-length
     same-length-2
     returns-2

@@ -33,20 +33,17 @@ store-pair-requires : tie.Need-store-pair-requires
 store-pair-requires c κs = let p = pair-of _ _ _ (c .before .before .before .before .before .before .before .before .before .before .before .before .before .before .before .pre .0) _ (c .before .before .before .before .before .before .before .before .before .before .before .before .before .before .before .pre .1 .0) _ (c .before .before .before .before .before .before .before .before .before .before .before .before .before .before .before .pre .1 .1) in let e = c .before .before .before .before .before .kept-values .ensures .1 in let m = c .before .before .before .before .before .before .before .before .before .before .decompose-pair .ensures in
     (pair-with _ _ _ _ _ _ _ p (c .before .before .before .before .before .before .before .before .before .before .decompose-pair .last .1 .0) _ (c .before .before .before .before .before .before .before .before .before .before .decompose-pair .kept .1 .0) (e .0) (e .1), (m .shape, m .stands))
 
-center-after-requires : tie.Need-center-after-requires
-center-after-requires c κs = omega (arith, c .before .before .before .before .before .before .before .before .before .before .before .before .before .before .before .before .before .before .pre .1 .0, c .before .before .before .before .before .before .before .before .before .before .before .before .before .before .before .before .before .before .pre .0 .sound .settings .qubits .1)
-
 record-cut-requires : tie.Need-record-cut-requires
-record-cut-requires c κs = (omega (arith, c .before .before .before .before .before .before .before .before .before .before .before .before .before .before .before .before .before .before .before .pre .1 .0, c .before .before .before .before .before .before .before .before .before .before .before .before .before .before .before .before .before .before .before .pre .0 .sound .settings .qubits .1), omega (arith, c .before .before .before .before .before .before .before .before .before .kept-values .ensures .1 .1, c .before .before .before .before .before .before .before .before .before .before .before .before .before .before .before .before .before .before .before .pre .0 .sound .settings .cap .1))
+record-cut-requires c κs = (omega (arith, c .before .before .before .before .before .before .before .before .before .before .before .before .before .before .before .before .before .before .pre .1 .0, c .before .before .before .before .before .before .before .before .before .before .before .before .before .before .before .before .before .before .pre .0 .sound .settings .qubits .1), omega (arith, c .before .before .before .before .before .before .before .before .kept-values .ensures .1 .1, c .before .before .before .before .before .before .before .before .before .before .before .before .before .before .before .before .before .before .pre .0 .sound .settings .cap .1))
 
 same-length-5 : tie.Need-same-length-5
 same-length-5 c = search needs
 
 same-length-6 : tie.Need-same-length-6
-same-length-6 c = c .before .before .before .before .before .before .before .before .before .before .before .before .before .before .before .decompose-pair .kept .1 .0
+same-length-6 c = c .before .before .before .before .before .before .before .before .before .before .before .before .before .before .decompose-pair .kept .1 .0
 
 returns-3 : tie.Need-returns-3
-returns-3 c = rw (c .record-cut .ensures, c .before .center-after .ensures, c .before .before .before .before .store-pair .ensures) (cut-stored _ _ _ _ (c .before .before .before .before .before .before .before .before .before .before .before .before .before .before .before .before .before .before .before .before .pre .1 .1) _ _ _ _ (c .before .before .before .before .before .before .before .before .before .before .before .before .before .before .before .decompose-pair .ensures) (c .before .before .before .before .before .before .before .before .before .before .before .before .if1 .left) _ (c .before .before .before .before .before .before .before .before .before .before .kept-values .ensures .0) (c .before .before .before .before .before .before .before .if2 .left))
+returns-3 c = rw (c .record-cut .ensures, c .before .before .before .store-pair .ensures) (cut-stored _ _ _ _ (c .before .before .before .before .before .before .before .before .before .before .before .before .before .before .before .before .before .before .before .pre .1 .1) _ _ _ _ (c .before .before .before .before .before .before .before .before .before .before .before .before .before .before .decompose-pair .ensures) (c .before .before .before .before .before .before .before .before .before .before .before .if1 .left) _ (c .before .before .before .before .before .before .before .before .before .kept-values .ensures .0) (c .before .before .before .before .before .before .if2 .left))
 
 pub cut-pair-spec : {M : Type 1} → statement M
 cut-pair-spec =
@@ -61,7 +58,6 @@ cut-pair-spec =
     same-length-4
     returns-2
     store-pair-requires
-    center-after-requires
     record-cut-requires
     same-length-5
     same-length-6

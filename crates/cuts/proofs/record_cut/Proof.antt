@@ -3,6 +3,9 @@ use borrow.Author.Needs.{needs}
 use Rattle.cuts.proofs.record_cut.Statement.{statement}
 use Rattle.cuts.proofs.record_cut.Tie as tie
 
+center-after-requires : tie.Need-center-after-requires
+center-after-requires c κs = search needs
+
 cast-out : tie.Need-cast-out
 cast-out c = search needs
 
@@ -25,12 +28,13 @@ add-share-requires : tie.Need-add-share-requires
 add-share-requires c κs = search needs
 
 returns : tie.Need-returns
-returns c = rw (c .before .larger .ensures, c .add-share .ensures)
+returns c = rw (c .before .larger .ensures, c .add-share .ensures, c .before .before .before .before .before .before .before .center-after .ensures)
 
 pub record-cut-spec : {M : Type 1} → statement M
 record-cut-spec =
     tie.close
     (tie.spec
+    center-after-requires
     cast-out
     add-out
     element-write-out
