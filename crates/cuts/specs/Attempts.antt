@@ -33,7 +33,7 @@ use Rattle.cutting.specs.declared.Kept.{Kept}
 use Rattle.cutting.specs.Shape.{standing, nanIn, Made}
 use Rattle.cutting.specs.Kept.{KeptOf}
 use Rattle.moves.specs.Ready.{Ready}
-use Rattle.cuts.specs.Pair.{bondsOf, recordedCut}
+use Rattle.cuts.specs.Pair.{pairBonds, recordedCut}
 use Rattle.cuts.specs.Runs.{swapsDown}
 
 -- ---- what is left ready
@@ -77,7 +77,7 @@ sites-two c h q0 q1 l m two e = two (sym (h .sites .undone q0 l) ∙ ap (λ (k :
 
 -- ---- one cut, of the bonds b: r is the decomposition, and w begins with it
 
-module _ (gate : List (List Complex)) (k : ℕ) (s : State) (b : Bonds) (eb : b ≡ bondsOf (s .chain) k) where
+module _ (gate : List (List Complex)) (k : ℕ) (s : State) (b : Bonds) (eb : b ≡ pairBonds (s .chain) k) where
   abbrev pairIn : Svd
   pairIn = pairSvd (s .chain .«norm_clamp_min») (b .left) (b .mid) (b .right) gate (siteAt s k) (siteAt s (k + 1))
 
@@ -129,10 +129,10 @@ above s b = ltb (2 ^ s .chain .«workspace_exponent») (workspace (b .left) (b .
 abbrev keeps : State → Bonds → Bool
 keeps s b = known (s .chain .center) || canLose (s .chain) (cutRank (b .left) (b .mid) (b .right))
 
-pub keeps-centre : (k : ℕ) (s : State) (b : Bonds) → b ≡ bondsOf (s .chain) k → keeps s b ≡ true → keepsCentre k s ≡ true
+pub keeps-centre : (k : ℕ) (s : State) (b : Bonds) → b ≡ pairBonds (s .chain) k → keeps s b ≡ true → keepsCentre k s ≡ true
 keeps-centre k s b eb e = rw eb at e
 
-module _ (gate : List (List Complex)) (k : ℕ) (s : State) (b : Bonds) (eb : b ≡ bondsOf (s .chain) k) where
+module _ (gate : List (List Complex)) (k : ℕ) (s : State) (b : Bonds) (eb : b ≡ pairBonds (s .chain) k) where
   pub attempt-above : above s b ≡ true → tried 6 false s ≡ attempt gate k s
   unfolding attempt
   attempt-above e = rw (rw eb at e)

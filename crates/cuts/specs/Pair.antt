@@ -19,8 +19,8 @@ use Rattle.moves.specs.Ready.{Ready, pair-right}
 use Rattle.moves.specs.Steps.{Pair, first-slot, second-slot, second-after}
 
 -- the bonds of the sites k and k + 1
-abbrev pub bondsOf : Chain → ℕ → Bonds
-bondsOf c k = record { left = bondLeft c k; mid = bondRight c k; right = bondRight c (k + 1) }
+abbrev pub pairBonds : Chain → ℕ → Bonds
+pairBonds c k = record { left = bondLeft c k; mid = bondRight c k; right = bondRight c (k + 1) }
 
 -- each of them is a byte
 pub record Bytes (b : Bonds) : Type 0 where
@@ -39,7 +39,7 @@ shifted e l =
     mod-eq-of-lt (omega arith) ∙ omega arith
 
 -- a chain that is ready has room to cut each two neighbours
-pub pair-of : (c : Chain) (store work : List Float) → Ready c store work → (k : ℕ) → k + 1 < c .«num_qubits» → (b : Bonds) → b ≡ bondsOf c k → Pair (c .«max_bond_dim») k (b .left) (b .mid) (b .right) store work
+pub pair-of : (c : Chain) (store work : List Float) → Ready c store work → (k : ℕ) → k + 1 < c .«num_qubits» → (b : Bonds) → b ≡ pairBonds c k → Pair (c .«max_bond_dim») k (b .left) (b .mid) (b .right) store work
 pair-of c store work h k l b e =
     pair-right c store work h k l (b .left) (b .mid) (b .right) (ap (λ (x : Bonds). x .left) e) (ap (λ (x : Bonds). x .right) e) (ap (λ (x : Bonds). x .mid) e)
 

@@ -36,7 +36,7 @@ ghost use Rattle.truncation.specs.Shares.{sharesOf};
 ghost use Rattle.cutting.specs.Shape.{shapeOf, standing, Stands, Made};
 ghost use Rattle.moves.specs.Ready.{Ready};
 ghost use Rattle.moves.specs.Steps.{Pair};
-ghost use Rattle.cuts.specs.Pair.{bondsOf, Bytes, recordedCut};
+ghost use Rattle.cuts.specs.Pair.{pairBonds, Bytes, recordedCut};
 ghost use Rattle.cuts.specs.Attempts.{ranOf};
 ghost use Rattle.cuts.specs.Runs.{swapsDown, routedGate};
 
@@ -51,7 +51,7 @@ fn wide(x: u8) -> usize
 // The bonds of the sites k and k + 1, as the record has them.
 fn pair_bonds(chain: Chain, k: usize) -> Bonds
     requires { ⌜ k < 63 ⌝ }
-    ensures { λ r. ⌜ r ≡ bondsOf chain k ⌝ }
+    ensures { λ r. ⌜ r ≡ pairBonds chain k ⌝ }
     ensures { λ r. ⌜ Bytes r ⌝ }
 {
     Bonds {
@@ -217,7 +217,7 @@ fn cut_pair(
     weight: Weight,
 ) -> Cut
     requires { ⌜ Ready chain (now store) (now work) ⌝ }
-    requires { ⌜ (k + 1 < chain .«num_qubits») × (bonds ≡ bondsOf chain k) ⌝ }
+    requires { ⌜ (k + 1 < chain .«num_qubits») × (bonds ≡ pairBonds chain k) ⌝ }
     ensures { λ r. ⌜ tried (r .refused) (r .again) (held (r .chain) (now (store .exit))) ≡ cutWith gate k (weight .maintained) (prepared (weight .side) (held chain (now (store .entry)))) ⌝ }
 {
     let d = chain.max_bond_dim;
