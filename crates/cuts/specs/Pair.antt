@@ -15,6 +15,7 @@ use Rattle.model.specs.Truncation.{recorded}
 use Rattle.model.specs.Slots.{slotRoom, slotOf}
 use Rattle.cutting.specs.Shape.{shapeOf, room, room-fits}
 use Rattle.pair.specs.declared.Bonds.{Bonds}
+use Rattle.cuts.specs.declared.Slots.{Slots}
 use Rattle.moves.specs.Ready.{Ready, pair-right}
 use Rattle.moves.specs.Steps.{Pair, first-slot, second-slot, second-after}
 
@@ -27,6 +28,13 @@ pub record Bytes (b : Bonds) : Type 0 where
   pub left : b .left ≤ 255
   pub mid : b .mid ≤ 255
   pub right : b .right ≤ 255
+
+-- r says where the slots of the sites k and k + 1 begin and end, under the cap d
+pub record SlotsOf (d k : ℕ) (r : Slots) : Type 0 where
+  pub left : r .left ≡ k * slotRoom d
+  pub left-end : r .«left_end» ≡ k * slotRoom d + slotRoom d
+  pub right : r .right ≡ (k + 1) * slotRoom d
+  pub right-end : r .«right_end» ≡ (k + 1) * slotRoom d + slotRoom d
 
 -- the bond, the widest bond so far, the weight discarded so far, with a cut's shares added, and the centre
 abbrev pub recordedCut : Chain → ℕ → ℕ → List Float → Center → Chain

@@ -23,6 +23,7 @@ ghost use mathlib.Core.Bool.{true, _||_, cond};
 ghost use Prim.Native.Nat.{_+_, _-_, _^_, _<_, _≤_};
 ghost use lib.Dec.{ltb};
 ghost use Rattle.gates.specs.Gate.{swapGateQubits};
+ghost use Rattle.model.specs.Chain.{siteOf};
 ghost use Rattle.model.specs.Slots.{held, slotOf, withSite};
 ghost use Rattle.model.specs.Truncation.{recorded, cutRank, workspace};
 ghost use Rattle.model.specs.Pair.{pairSvd, leftSite, rightSite};
@@ -36,7 +37,7 @@ ghost use Rattle.truncation.specs.Shares.{sharesOf};
 ghost use Rattle.cutting.specs.Shape.{shapeOf, standing, Stands, Made};
 ghost use Rattle.moves.specs.Ready.{Ready};
 ghost use Rattle.moves.specs.Steps.{Pair};
-ghost use Rattle.cuts.specs.Pair.{pairBonds, Bytes, recordedCut};
+ghost use Rattle.cuts.specs.Pair.{pairBonds, Bytes, SlotsOf, recordedCut};
 ghost use Rattle.cuts.specs.Attempts.{ranOf};
 ghost use Rattle.cuts.specs.Runs.{swapsDown, routedGate};
 
@@ -99,6 +100,29 @@ fn keeps_center(chain: Chain, bonds: Bonds) -> bool
 
 // ---- one cut
 
+// Where the slots of the sites k and k + 1 begin and end in the store.
+struct Slots {
+    left: usize,
+    left_end: usize,
+    right: usize,
+    right_end: usize,
+}
+
+fn pair_slots(d: usize, k: usize) -> Slots
+    requires { ⌜ (d ≤ 128) × (k < 64) ⌝ }
+    ensures { λ r. ⌜ SlotsOf d k r ⌝ }
+{
+    let slot = 4 * d * d;
+    let left = k * slot;
+    let right = (k + 1) * slot;
+    Slots {
+        left,
+        left_end: left + slot,
+        right,
+        right_end: right + slot,
+    }
+}
+
 // The pair k, k + 1 with the gate on it, decomposed at the front of the work slice.
 fn decompose_pair(
     store: &[f64],
@@ -112,11 +136,11 @@ fn decompose_pair(
     requires { ⌜ Pair d k (bonds .left) (bonds .mid) (bonds .right) (now store) (now work) ⌝ }
     ensures { λ r. ⌜ Made (bonds .left) (bonds .right) (pairSvd clamp (bonds .left) (bonds .mid) (bonds .right) gate (slotOf d k (now (store .entry))) (slotOf d (k + 1) (now (store .entry)))) (now (work .exit)) r ⌝ }
 {
-    let slot = 4 * d * d;
-    let a = k * slot;
-    let b = a + slot;
-    let s = (k + 1) * slot;
-    let t = s + slot;
+    let at = pair_slots(d, k);
+    let a = at.left;
+    let b = at.left_end;
+    let s = at.right;
+    let t = at.right_end;
     decompose(&store[a..b], &store[s..t], work, gate, bonds, clamp)
 }
 
@@ -134,11 +158,11 @@ fn store_pair(
     requires { ⌜ (f .shape ≡ shapeOf (bonds .left) (bonds .right)) × Stands (f .shape) (now work) (f .order) ⌝ }
     ensures { λ _. ⌜ now (store .exit) ≡ withSite d (k + 1) (rightSite side (bonds .mid) (bonds .right) (standing (f .shape) (now (work .entry)) (f .order))) (withSite d k (leftSite side (bonds .left) (bonds .mid) (standing (f .shape) (now (work .entry)) (f .order))) (now (store .entry))) ⌝ }
 {
-    let slot = 4 * d * d;
-    let a = k * slot;
-    let b = a + slot;
-    let s = (k + 1) * slot;
-    let t = s + slot;
+    let at = pair_slots(d, k);
+    let a = at.left;
+    let b = at.left_end;
+    let s = at.right;
+    let t = at.right_end;
     let shape = f.shape;
     store_left(&mut store[a..b], work, &f.order, shape, side, bonds);
     store_right(&mut store[s..t], work, &f.order, shape, side, bonds);
@@ -441,6 +465,14 @@ fn route_gate(
     apply_adjacent_two_qubit(out, store, work, gate, near)
 }
 
+// The site of a qubit.
+fn site_of(chain: Chain, q: usize) -> usize
+    requires { ⌜ q < 64 ⌝ }
+    ensures { λ r. ⌜ r ≡ siteOf chain q ⌝ }
+{
+    wide(chain.logical_to_site[q])
+}
+
 // The gate for qubits at the sites p and q, the left one first.
 fn gate_between(gate: [[Complex; 4]; 4], p: usize, q: usize) -> [[Complex; 4]; 4]
     ensures { λ r. ⌜ r ≡ cond (ltb p q) gate (swapGateQubits gate) ⌝ }
@@ -461,8 +493,8 @@ pub fn apply_two_qubit_gate(
     requires { ⌜ (q0 < chain .«num_qubits») × (q1 < chain .«num_qubits») × (q0 ≢ q1) ⌝ }
     ensures { λ r. ⌜ ran (r .refused) (held (r .chain) (now (store .exit))) ≡ gateRun gate q0 q1 (held chain (now (store .entry))) ⌝ }
 {
-    let p = wide(chain.logical_to_site[q0]);
-    let q = wide(chain.logical_to_site[q1]);
+    let p = site_of(chain, q0);
+    let q = site_of(chain, q1);
     let turned = gate_between(gate, p, q);
     route_gate(chain, store, work, turned, smaller(p, q), larger(p, q))
 }

@@ -6,17 +6,11 @@ use borrow.Author.Needs.{needs}
 use Rattle.cuts.proofs.apply_two_qubit_gate.Statement.{statement}
 use Rattle.cuts.proofs.apply_two_qubit_gate.Tie as tie
 
-element-copy-out-wide : tie.Need-element-copy-out-wide
-element-copy-out-wide c = search needs
+site-of-requires : tie.Need-site-of-requires
+site-of-requires c κs = omega (arith, c .before .before .pre .1 .0, c .before .before .pre .0 .sound .settings .qubits .1)
 
-wide-requires : tie.Need-wide-requires
-wide-requires c κs = search needs
-
-element-copy-out-wide-2 : tie.Need-element-copy-out-wide-2
-element-copy-out-wide-2 c = search needs
-
-wide-requires-2 : tie.Need-wide-requires-2
-wide-requires-2 c κs = search needs
+site-of-requires-2 : tie.Need-site-of-requires-2
+site-of-requires-2 c κs = omega (arith, c .before .before .before .pre .1 .1, c .before .before .before .pre .0 .sound .settings .qubits .1)
 
 gate-between-requires : tie.Need-gate-between-requires
 gate-between-requires c κs = search needs
@@ -28,26 +22,24 @@ larger-requires : tie.Need-larger-requires
 larger-requires c κs = search needs
 
 route-gate-requires : tie.Need-route-gate-requires
-route-gate-requires c κs = let h = c .before .before .before .before .before .before .before .before .before .before .before .pre .0 .sound in let two = sites-two _ h _ _ (c .before .before .before .before .before .before .before .before .before .before .before .pre .1 .0) (c .before .before .before .before .before .before .before .before .before .before .before .pre .1 .1) (c .before .before .before .before .before .before .before .before .before .before .before .pre .1 .2) in let p = c .before .before .before .before .before .before .before .wide .ensures .0 in let q = c .before .before .before .before .before .wide2 .ensures .0 in let near = c .before .smaller .ensures in let far = c .larger .ensures in
-    let l = h .sites .below (c .before .before .before .before .before .before .before .before .before .before .before .args .q0) (c .before .before .before .before .before .before .before .before .before .before .before .pre .1 .0) in let m = h .sites .below (c .before .before .before .before .before .before .before .before .before .before .before .args .q1) (c .before .before .before .before .before .before .before .before .before .before .before .pre .1 .1) in (c .before .before .before .before .before .before .before .before .before .before .before .pre .0, (omega (arith, two), omega arith))
+route-gate-requires c κs = let h = c .before .before .before .before .before .before .before .before .before .pre .0 .sound in let two = sites-two _ h _ _ (c .before .before .before .before .before .before .before .before .before .pre .1 .0) (c .before .before .before .before .before .before .before .before .before .pre .1 .1) (c .before .before .before .before .before .before .before .before .before .pre .1 .2) in let p = c .before .before .before .before .before .before .site-of .ensures in let q = c .before .before .before .before .before .site-of2 .ensures in let near = c .before .smaller .ensures in let far = c .larger .ensures in
+    let l = h .sites .below (c .before .before .before .before .before .before .before .before .before .args .q0) (c .before .before .before .before .before .before .before .before .before .pre .1 .0) in let m = h .sites .below (c .before .before .before .before .before .before .before .before .before .args .q1) (c .before .before .before .before .before .before .before .before .before .pre .1 .1) in (c .before .before .before .before .before .before .before .before .before .pre .0, (omega (arith, two), omega arith))
 
 same-length : tie.Need-same-length
-same-length c = search needs
+same-length c = c .before .before .before .before .route-gate .kept .1 .0
 
 same-length-2 : tie.Need-same-length-2
-same-length-2 c = search needs
+same-length-2 c = c .before .before .before .before .route-gate .kept .1 .1 .0
 
 returns : tie.Need-returns
-returns c = c .before .before .before .before .route-gate .ensures ∙ run-between _ _ _ _ _ _ (c .before .before .before .before .before .before .before .before .before .before .before .before .wide .ensures .0) (c .before .before .before .before .before .before .before .before .before .before .wide2 .ensures .0) _ _ _ (c .before .before .before .before .before .before .before .before .before .gate-between .ensures) (c .before .before .before .before .before .before .smaller .ensures) (c .before .before .before .before .before .larger .ensures)
+returns c = c .before .before .before .before .route-gate .ensures ∙ run-between _ _ _ _ _ _ (c .before .before .before .before .before .before .before .before .before .before .before .site-of .ensures) (c .before .before .before .before .before .before .before .before .before .before .site-of2 .ensures) _ _ _ (c .before .before .before .before .before .before .before .before .before .gate-between .ensures) (c .before .before .before .before .before .before .smaller .ensures) (c .before .before .before .before .before .larger .ensures)
 
 pub apply-two-qubit-gate-spec : {M : Type 1} → statement M
 apply-two-qubit-gate-spec =
     tie.close
     (tie.spec
-    element-copy-out-wide
-    wide-requires
-    element-copy-out-wide-2
-    wide-requires-2
+    site-of-requires
+    site-of-requires-2
     gate-between-requires
     smaller-requires
     larger-requires

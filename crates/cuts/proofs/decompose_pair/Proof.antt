@@ -4,26 +4,8 @@ use borrow.Author.Needs.{needs}
 use Rattle.cuts.proofs.decompose_pair.Statement.{statement}
 use Rattle.cuts.proofs.decompose_pair.Tie as tie
 
-mul-slot : tie.Need-mul-slot
-mul-slot c = search needs
-
-mul-slot-2 : tie.Need-mul-slot-2
-mul-slot-2 c = search needs
-
-mul-a : tie.Need-mul-a
-mul-a c = search needs
-
-add-b : tie.Need-add-b
-add-b c = search needs
-
-add-s : tie.Need-add-s
-add-s c = search needs
-
-mul-s : tie.Need-mul-s
-mul-s c = search needs
-
-add-t : tie.Need-add-t
-add-t c = search needs
+pair-slots-requires : tie.Need-pair-slots-requires
+pair-slots-requires c κs = (c .before .before .pre .cap, c .before .before .pre .place)
 
 mul-decompose : tie.Need-mul-decompose
 mul-decompose c = search needs
@@ -50,25 +32,19 @@ part-decompose-end-2 : tie.Need-part-decompose-end-2
 part-decompose-end-2 c = search needs
 
 decompose-requires : tie.Need-decompose-requires
-decompose-requires c κs = let p = c .before .before .before .before .before .pre in ((p .left .least, omega arith, omega arith, p .right .least, omega arith), (left-numbers _ _ _ _ _ _ _ p, right-numbers _ _ _ _ _ _ _ p, work-enough _ _ _ _ _ _ _ p))
+decompose-requires c κs = let p = c .before .before .before .before .before .before .pre in let e = c .before .before .before .pair-slots .ensures in rw (e .left-end, e .left, e .right-end, e .right) ((p .left .least, omega arith, omega arith, p .right .least, omega arith), (left-numbers _ _ _ _ _ _ _ p, right-numbers _ _ _ _ _ _ _ p, work-enough _ _ _ _ _ _ _ p))
 
 same-length : tie.Need-same-length
 same-length c = search needs
 
 returns : tie.Need-returns
-returns c = c .before .before .decompose .ensures
+returns c = let e = c .before .before .before .before .before .before .pair-slots .ensures in rw (e .left-end, e .left, e .right-end, e .right) at (c .before .before .decompose .ensures)
 
 pub decompose-pair-spec : {M : Type 1} → statement M
 decompose-pair-spec =
     tie.close
     (tie.spec
-    mul-slot
-    mul-slot-2
-    mul-a
-    add-b
-    add-s
-    mul-s
-    add-t
+    pair-slots-requires
     mul-decompose
     sub-decompose
     part-decompose-start

@@ -5,26 +5,8 @@ use borrow.Author.Needs.{needs}
 use Rattle.cuts.proofs.store_pair.Statement.{statement}
 use Rattle.cuts.proofs.store_pair.Tie as tie
 
-mul-slot : tie.Need-mul-slot
-mul-slot c = search needs
-
-mul-slot-2 : tie.Need-mul-slot-2
-mul-slot-2 c = search needs
-
-mul-a : tie.Need-mul-a
-mul-a c = search needs
-
-add-b : tie.Need-add-b
-add-b c = search needs
-
-add-s : tie.Need-add-s
-add-s c = search needs
-
-mul-s : tie.Need-mul-s
-mul-s c = search needs
-
-add-t : tie.Need-add-t
-add-t c = search needs
+pair-slots-requires : tie.Need-pair-slots-requires
+pair-slots-requires c κs = (c .before .before .pre .0 .cap, c .before .before .pre .0 .place)
 
 mul-store-left : tie.Need-mul-store-left
 mul-store-left c = search needs
@@ -39,7 +21,7 @@ part-store-left-end : tie.Need-part-store-left-end
 part-store-left-end c = search needs
 
 store-left-requires : tie.Need-store-left-requires
-store-left-requires c κs = let p = c .before .before .before .before .before .before .before .pre .0 in ((omega arith, omega arith, left-fits _ _ _ _ _ _ _ p), (c .before .before .before .before .before .before .before .pre .1 .0, c .before .before .before .before .before .before .before .pre .1 .1, omega arith))
+store-left-requires c κs = let p = c .before .before .before .before .before .before .before .before .pre .0 in let e = c .before .before .before .before .before .pair-slots .ensures in ((omega arith, omega arith, rw (e .left-end, e .left) (left-fits _ _ _ _ _ _ _ p)), (c .before .before .before .before .before .before .before .before .pre .1 .0, c .before .before .before .before .before .before .before .before .pre .1 .1, omega arith))
 
 mul-store-right : tie.Need-mul-store-right
 mul-store-right c = search needs
@@ -54,25 +36,20 @@ part-store-right-end : tie.Need-part-store-right-end
 part-store-right-end c = search needs
 
 store-right-requires : tie.Need-store-right-requires
-store-right-requires c κs = let p = c .before .before .before .before .before .before .before .before .before .before .before .before .before .before .pre .0 in ((omega arith, omega arith, right-fits _ _ _ _ _ _ _ p (c .before .before .before .before .before .before .store-left .last .0) (c .before .before .before .before .before .before .store-left .kept .0)), (c .before .before .before .before .before .before .before .before .before .before .before .before .before .before .pre .1 .0, c .before .before .before .before .before .before .before .before .before .before .before .before .before .before .pre .1 .1, omega arith))
+store-right-requires c κs = let p = c .before .before .before .before .before .before .before .before .before .before .before .before .before .before .before .pre .0 in let e = c .before .before .before .before .before .before .before .before .before .before .before .before .pair-slots .ensures in ((omega arith, omega arith, rw (e .left-end, e .left, e .right-end, e .right) (right-fits _ _ _ _ _ _ _ p (c .before .before .before .before .before .before .store-left .last .0) (rw (e .left-end, e .left) at (c .before .before .before .before .before .before .store-left .kept .0)))), (c .before .before .before .before .before .before .before .before .before .before .before .before .before .before .before .pre .1 .0, c .before .before .before .before .before .before .before .before .before .before .before .before .before .before .before .pre .1 .1, omega arith))
 
 same-length : tie.Need-same-length
 same-length c = search needs
 
 returns : tie.Need-returns
-returns c = pair-written _ _ _ (c .before .before .before .before .before .before .before .before .before .before .before .before .before .before .before .before .before .pre .0 .store-room) (c .before .before .before .before .before .before .before .before .before .store-left .last .0) (c .before .before .before .before .before .before .before .before .before .store-left .kept .0) _ _ _ (c .before .before .before .before .before .before .before .before .before .store-left .ensures) (c .before .before .store-right .ensures)
+returns c = let e = c .before .before .before .before .before .before .before .before .before .before .before .before .before .before .before .pair-slots .ensures in
+    rw (e .left-end, e .left, e .right-end, e .right) (pair-written _ _ _ (c .before .before .before .before .before .before .before .before .before .before .before .before .before .before .before .before .before .before .pre .0 .store-room) (c .before .before .before .before .before .before .before .before .before .store-left .last .0) (rw (e .left-end, e .left) at (c .before .before .before .before .before .before .before .before .before .store-left .kept .0)) _ _ _ (rw (e .left-end, e .left) at (c .before .before .before .before .before .before .before .before .before .store-left .ensures)) (rw (e .left-end, e .left, e .right-end, e .right) at (c .before .before .store-right .ensures)))
 
 pub store-pair-spec : {M : Type 1} → statement M
 store-pair-spec =
     tie.close
     (tie.spec
-    mul-slot
-    mul-slot-2
-    mul-a
-    add-b
-    add-s
-    mul-s
-    add-t
+    pair-slots-requires
     mul-store-left
     sub-store-left
     part-store-left-start
