@@ -14,7 +14,7 @@ use Rattle.model.specs.declared.Center.the-variants.{At}
 use Rattle.model.specs.declared.WeightSide.{WeightSide}
 use Rattle.model.specs.declared.WeightSide.the-variants.{Right}
 use Rattle.model.specs.Chain.{siteOf, qubitAt}
-use Rattle.model.specs.Slots.{State, held, lefts, rights, siteAt, withSite}
+use Rattle.model.specs.Slots.{State, held, siteAt, withSite}
 use Rattle.model.specs.Svd.{Svd, values}
 use Rattle.model.specs.Truncation.{rank, resolvable, share, cutRank, workspace}
 use Rattle.model.specs.Pair.{pairSvd, leftSite, rightSite}

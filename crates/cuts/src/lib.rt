@@ -144,7 +144,7 @@ fn decompose_pair(
     decompose(&store[a..b], &store[s..t], work, gate, bonds, clamp)
 }
 
-// The two sites of the decomposition; the bond between them says how many values are kept.
+// The two sites of the decomposition. The bonds are those after the cut: the one between the sites is how many values are kept.
 fn store_pair(
     store: &mut [f64],
     work: &[f64],
@@ -338,6 +338,7 @@ pub struct Run {
     pub chain: Chain,
 }
 
+// The run of an attempt that is not made again.
 fn run_of(cut: Cut) -> Run
     ensures { λ r. ⌜ (r .refused ≡ cut .refused) × (r .chain ≡ cut .chain) ⌝ }
 {

@@ -7,13 +7,12 @@ use native.Mathlib.Nat.{mul-comm, mul-le-mul-right, mul-le-mul-left}
 use native.Mathlib.Omega.{arith}
 use lib.Dec.{ltb}
 use lib.Ieee.{Float}
-use lib.ListN.{length, take, replicate, length-set, length-replicate}
+use lib.ListN.{length, take}
 use lib.Seq.{length-take-le, take-at}
 use borrow.Author.Tests.{ltb-true, ltb-false}
-use Rattle.complex.specs.Loops.{each-keeps}
 use Rattle.complex.specs.Numbers.{at}
 use Rattle.complex.specs.declared.Complex.{Complex}
-use Rattle.model.specs.Svd.{Svd, ordered, place, orderOf, factored, svd, valuesAt, rawValue, anyNan}
+use Rattle.model.specs.Svd.{Svd, ordered, orderOf, factored, svd, valuesAt, rawValue, anyNan}
 use Rattle.model.specs.Pair.{gatedTheta, matrixOf, adjointOf, pairSvd}
 use Rattle.model.specs.Slots.{workRoom}
 use Rattle.svd.specs.Order.{Below}

@@ -35,6 +35,7 @@ pub struct Shape {
     pub vals: usize,
 }
 
+// The shape of a matrix of so many rows and columns.
 fn with_rows(adjoint: bool, high: usize, wide: usize) -> Shape
     requires { ⌜ (high ≤ 256) × (wide ≤ 256) ⌝ }
     ensures { λ r. ⌜ r ≡ shaped adjoint high wide ⌝ }
@@ -186,7 +187,7 @@ fn right_factor(s: Shape) -> Factor
     }
 }
 
-// The left site of the decomposition in the work slice; the bond between the sites says how many values are kept.
+// The left site of the decomposition in the work slice. The bonds are those after the cut: the one between the sites is how many values are kept.
 pub fn store_left(
     slot: &mut [f64],
     work: &[f64],

@@ -1,4 +1,3 @@
-use native.Mathlib.Omega.{arith}
 use borrow.Author.Needs.{needs}
 use Rattle.cuts.proofs.keeps_center.Statement.{statement}
 use Rattle.cuts.proofs.keeps_center.Tie as tie

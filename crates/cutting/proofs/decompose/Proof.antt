@@ -6,7 +6,7 @@ use native.Mathlib.Nat.{mul-le-mul}
 use native.Mathlib.Omega.{arith}
 use lib.ListN.{length, drop, length-append}
 use Rattle.complex.specs.Numbers.{at}
-use Rattle.model.specs.Svd.{Svd, ordered, valuesAt, factored, orderOf}
+use Rattle.model.specs.Svd.{ordered, valuesAt, factored}
 use Rattle.model.specs.Pair.{gatedTheta, pairSvd}
 use Rattle.svd.specs.Order.{order-below}
 use Rattle.cutting.specs.Shape.{room, matrixFor, standing-ordered, shape-wide, shape-matrix, shape-small, shape-stands, pair-shape}
