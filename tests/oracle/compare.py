@@ -246,9 +246,24 @@ def note(tally, kind, args, answer, before, after, sites):
         tally["accepted calls that write NaN or infinity"] += 1
     if any(0 < w & 0x7FFFFFFFFFFFFFFF < 1 << 52 for rewritten, data in sites if rewritten for w in data):
         tally["calls that write subnormal numbers"] += 1
+    if kind in (GATE, NAMED) and (tag == 1 or value == 7) and q - p == 1:
+        how = "known" if before[325] else "established first" if lose else "established to cut again" if after[325] else "not needed"
+        # a move comes before the cut, and the cut itself leaves the outer bonds
+        outer = (bl, br) if how == "established to cut again" else (after[5 + p], after[69 + p + 1])
+        note_wide(tally, (outer[0], 0 if how == "established first" else mid, outer[1], after[69 + p]), eps << 1 & BIG != 0, how)
     widest = max(after[5:69])
     if kind in (GATE, NAMED) and tag == 1:
         tally[f"gates with a widest bond of {'1' if widest == 1 else '2 to 4' if widest <= 4 else '5 to 16' if widest <= 16 else 'more than 16'}"] += 1
+
+def note_wide(tally, bonds, above, how):
+    """A cut of neighbours: left, middle and right bond, and the middle one after it. 0 where it is not known."""
+    if not any(17 <= b <= 127 for b in bonds[:3]): return
+    tally["cuts with a bond of 17 to 127"] += 1
+    tally[f"such cuts, epsilon {'above 0' if above else '0'}"] += 1
+    tally[f"such cuts, centre {how}"] += 1
+    for name, b in zip(("left", "middle", "right", "new"), bonds):
+        for low, high in ((17, 32), (33, 64), (65, 96), (97, 127)):
+            if low <= b <= high: tally[f"such cuts, {name} bond {low} to {high}"] += 1
 
 # ---------------------------------------------------------------- what is drawn
 # the kinds of gates in Draw.gate
@@ -597,6 +612,34 @@ def high_water(t, count):
             p, q = rec.s2l[a], rec.s2l[a + 1]
             c.call(GATE, p, q, *t.gate_words(t.gate()))
             any_call(c, t, n, d)
+        cases.append(c)
+    return cases
+
+def middle(t, count):
+    """Cuts with bonds of 17 to 127 left of the pair, between its sites and right of it."""
+    cases = []
+    for k in range(count):
+        r = t.r
+        # a centre that is moved or established leaves bonds of at most 2, 4, 8, .. from either end, so some chains are long
+        n = 12 if k % 8 == 7 else [4, 4, 3, 4, 2, 4, 4][k % 7]
+        d = r.randrange(33, 75) if n == 12 else 127 if k % 2 else r.randrange(33, 128)
+        bond = lambda: r.randrange(17, min(d, r.choice([32, d, d, d])) + 1)
+        rec = Record(n, d, 63, [0.0, 1e-12, 0.0, 0.3, 1e-3, -0.0, 0.05][k // 2 % 7], r.choice([0.0, 1e-30])).bonds([bond() for _ in range(n - 1)])
+        if k % 3: rec.high = r.choice([d, r.randrange(rec.high, d + 1)])
+        rec.permute(r.sample(range(n), n))
+        kind = r.choice(["gauss"] * 4 + ["plain", "near", "sparse", "deficient", "tiny", "subnormal"])
+        c = Case("middle", f"{k}: n {n} D {d} bonds {rec.br[:n]} epsilon {rec.epsilon} numbers {kind}")
+        store = sites(t, rec, kind)
+        c.numbers(WORK, t.work(work_room(d) + 1))
+        c.numbers(OUT, [])
+        for j in range(4):
+            a = r.randrange(4, 7) if n == 12 else r.choice([1, 1, 0, 2]) if n == 4 else r.randrange(n - 1)
+            rec.center = [None, r.choice([a, a + 1]), None, r.randrange(n)][(j + k) % 4]
+            c.record(rec)
+            c.numbers(STORE, store)
+            p, q = r.sample([rec.s2l[a], rec.s2l[a + 1]], 2)
+            if r.random() < 0.2: c.call(NAMED, p, q, r.randrange(3))
+            else: c.call(GATE, p, q, *t.gate_words(t.gate()))
         cases.append(c)
     return cases
 
@@ -988,38 +1031,48 @@ def marked(t):
 def unlimited():
     resource.setrlimit(resource.RLIMIT_STACK, (resource.RLIM_INFINITY, resource.RLIM_INFINITY))
 
-def run(program, data):
-    p = subprocess.run([program], input=data, stdout=subprocess.PIPE, stderr=subprocess.PIPE, preexec_fn=unlimited)
-    return p
+def run(program, data, timeout=None):
+    return subprocess.run([program], input=data, stdout=subprocess.PIPE, stderr=subprocess.PIPE, preexec_fn=unlimited, timeout=timeout)
+
+def categories(scale, full):
+    """For each category what draws its cases."""
+    k = lambda x: max(1, int(x * scale))
+    return {
+        "run cases": marked, "starts": lambda t: starts(t, k(20)), "streams": lambda t: streams(t, k(400)),
+        "records": lambda t: records(t, k(180)), "environments": lambda t: environments(t, k(60)), "weights": lambda t: weights(t, k(60)), "edges": edges,
+        "workspace": lambda t: workspace(t, k(60)), "not a number": lambda t: not_a_number(t, k(80)), "short slices": short_slices,
+        "unsound records": lambda t: unsound(t, k(25)), "perturbed records": lambda t: perturbed(t, k(40)), "high water": lambda t: high_water(t, k(50)),
+        "middle": lambda t: middle(t, k(150 if full else 12)), "wide": lambda t: wide(t, full),
+    }
+
+def drawn(seed, category, make):
+    return make(Draw(f"{seed} {category}"))
+
+def check(case, o, p, tally):
+    """Raises Difference. o and p are what the oracle and the port ran to."""
+    if o.returncode: raise Difference(f"the oracle ended with {o.returncode}: {o.stderr[-300:]}")
+    check_case(case, Reader(p.stdout), Reader(o.stdout), tally)
+    if p.returncode: raise Difference(f"the port ended with {p.returncode}: {p.stderr[-300:]}")
 
 def main():
     ap = argparse.ArgumentParser()
     ap.add_argument("oracle"); ap.add_argument("harness")
     ap.add_argument("--seed", type=int, default=1); ap.add_argument("--only"); ap.add_argument("--scale", type=float, default=1.0)
     ap.add_argument("--keep", help="a folder for the input of each case that differs")
-    ap.add_argument("--full", action="store_true", help="with the cuts of 256 values")
+    ap.add_argument("--full", action="store_true", help="with the cuts of 256 values, and all those with bonds of 17 to 127")
     ap.add_argument("--emit", help="write the inputs of all cases there, joined, and the harness's output beside it")
     a = ap.parse_args()
-    k = lambda x: max(1, int(x * a.scale))
-    made = {
-        "run cases": lambda t: marked(t), "starts": lambda t: starts(t, k(20)), "streams": lambda t: streams(t, k(400)),
-        "records": lambda t: records(t, k(180)), "environments": lambda t: environments(t, k(60)), "weights": lambda t: weights(t, k(60)), "edges": edges,
-        "workspace": lambda t: workspace(t, k(60)), "not a number": lambda t: not_a_number(t, k(80)), "short slices": short_slices,
-        "unsound records": lambda t: unsound(t, k(25)), "perturbed records": lambda t: perturbed(t, k(40)), "high water": lambda t: high_water(t, k(50)), "wide": lambda t: wide(t, a.full),
-    }
     total, differ, whole, emitted, written = collections.Counter(), 0, collections.Counter(), [], []
-    for category, make in made.items():
+    for category, make in categories(a.scale, a.full).items():
         if a.only and a.only != category: continue
-        tally, cases = collections.Counter(), make(Draw(f"{a.seed} {category}"))
+        tally, cases = collections.Counter(), drawn(a.seed, category, make)
         bad = 0
         for c in cases:
             data = c.bytes()
             o, p = run(a.oracle, data), run(a.harness, data)
-            emitted.append(data); written.append(p.stdout)
+            if a.emit: emitted.append(data); written.append(p.stdout)
             try:
-                if o.returncode: raise Difference(f"the oracle ended with {o.returncode}: {o.stderr[-300:]}")
-                check_case(c, Reader(p.stdout), Reader(o.stdout), tally)
-                if p.returncode: raise Difference(f"the port ended with {p.returncode}: {p.stderr[-300:]}")
+                check(c, o, p, tally)
             except Difference as e:
                 bad += 1
                 print(f"DIFFERENCE {category} | {c.name} | {e}", flush=True)
