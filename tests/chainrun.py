@@ -1,7 +1,7 @@
 #!/usr/bin/env python3
-"""Runs target/bin/chainrun, or the program that is named, on the streams of the stored list, whole and in pieces, and on the cases that document 01
-names; the lines it has to print are the oracle's (crates/replay/stdout). Then on the sample stream, against what README
-shows. Prints nothing unless something differs."""
+"""Runs target/bin/chainrun, or the program that is named, on the streams of the stored list, whole and in pieces, and on
+the cases that document 01 names; the lines it has to print are the oracle's (crates/replay/stdout). Then on the sample
+stream, against what README shows. Prints nothing unless something differs."""
 import pathlib
 import re
 import select

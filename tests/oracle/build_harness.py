@@ -18,7 +18,7 @@ TOOLS = os.path.join(OWN, "toolchain")
 CLANG = os.path.join(TOOLS, "bin", "clang")
 # not named .rt here: every file of Rattle in the repository belongs to a listed crate
 ADDED = {"words": ("lib", "io libc"), "harness": ("main", "complex gates model chain words io libc"),
-         "exports": ("main", "root_export bench_export words io libc")}
+         "exports": ("main", "root_export bench_export complex gates bytes_le record lines stream words io libc")}
 # what the harness's text has, and what it has as it is kept: store, work, result
 SIZES = {70001: 270001, 90001: 1320001, 33001: 34001}
 # which of the modules that the compiler is handed, and how it is compiled

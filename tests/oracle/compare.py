@@ -616,8 +616,7 @@ def high_water(t, count):
     return cases
 
 def middle(t, count):
-    """Cuts with bonds of 17 to 127 left of the pair, between its sites and right of it."""
-    cases = []
+    """Cuts with bonds of 17 to 127 left of the pair, between its sites and right of it. One case at a time, since they are long."""
     for k in range(count):
         r = t.r
         # a centre that is moved or established leaves bonds of at most 2, 4, 8, .. from either end, so some chains are long
@@ -629,19 +628,19 @@ def middle(t, count):
         rec.permute(r.sample(range(n), n))
         kind = r.choice(["gauss"] * 4 + ["plain", "near", "sparse", "deficient", "tiny", "subnormal"])
         c = Case("middle", f"{k}: n {n} D {d} bonds {rec.br[:n]} epsilon {rec.epsilon} numbers {kind}")
-        store = sites(t, rec, kind)
-        c.numbers(WORK, t.work(work_room(d) + 1))
         c.numbers(OUT, [])
+        c.numbers(WORK, t.work(work_room(d) + 1))
+        c.numbers(STORE, sites(t, rec, kind))
+        store = c.steps[-1]
         for j in range(4):
             a = r.randrange(4, 7) if n == 12 else r.choice([1, 1, 0, 2]) if n == 4 else r.randrange(n - 1)
             rec.center = [None, r.choice([a, a + 1]), None, r.randrange(n)][(j + k) % 4]
             c.record(rec)
-            c.numbers(STORE, store)
+            c.steps.append(store)
             p, q = r.sample([rec.s2l[a], rec.s2l[a + 1]], 2)
             if r.random() < 0.2: c.call(NAMED, p, q, r.randrange(3))
             else: c.call(GATE, p, q, *t.gate_words(t.gate()))
-        cases.append(c)
-    return cases
+        yield c
 
 def wide(t, full):
     """Bonds up to 128: a cut of 256 values, moves and walks across wide bonds."""
@@ -1066,8 +1065,8 @@ def main():
     for category, make in categories(a.scale, a.full).items():
         if a.only and a.only != category: continue
         tally, cases = collections.Counter(), drawn(a.seed, category, make)
-        bad = 0
-        for c in cases:
+        bad = made = 0
+        for made, c in enumerate(cases, 1):
             data = c.bytes()
             o, p = run(a.oracle, data), run(a.harness, data)
             if a.emit: emitted.append(data); written.append(p.stdout)
@@ -1079,8 +1078,8 @@ def main():
                 if a.keep:
                     os.makedirs(a.keep, exist_ok=True)
                     open(os.path.join(a.keep, f"{category.replace(' ', '_')}-{bad}.in"), "wb").write(data)
-        print(f"{category}: {len(cases)} cases, {tally['calls']} calls, {bad} differences", flush=True)
-        total["cases"] += len(cases); total["calls"] += tally["calls"]; differ += bad
+        print(f"{category}: {made} cases, {tally['calls']} calls, {bad} differences", flush=True)
+        total["cases"] += made; total["calls"] += tally["calls"]; differ += bad
         whole.update(tally)
     for name in sorted(whole): print(f"  {whole[name]:8} {name}")
     if tally_unsound[0]: print(f"  {tally_unsound[0]:8} unsound records")

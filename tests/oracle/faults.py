@@ -10,7 +10,9 @@ notices it; that a program traps or does not end is noticed too.
     list      the stored list, whole states (program replay)
     states    the cases of compare.py, whole states against the oracle (program harness)
     cases     tests/chainrun.py (program chainrun)
-    exports   roots and sizes against the machine's, lists of gates against the oracle (program exports)
+    exports   functions called by themselves (program exports): roots and sizes against the machine's, lists of gates
+              against the oracle; an f64's bits, a record's lengths, what a run starts from, the named gates and lines
+              against what is promised
 """
 import collections, math, os, pathlib, re, signal, struct, subprocess, sys
 import build_harness, compare
@@ -99,6 +101,20 @@ class Exports:
             self.want.append(self.root(x * x + y * y))
         for n, d, epsilon, clamp in [(2, 2, 0.0, 0.0), (5, 4, 1e-3, 0.0), (8, 4, 0.3, 1e-30), (20, 2, 0.0, 0.5), (32, 2, 1e-12, 1e-30)]:
             self.gates(t, oracle, n, d, epsilon, clamp)
+        for w in [0, 1, compare.BIG, *(s | x for s in (0, 1 << 63) for e in (0x7FF0, 0x7FF8) for x in range((e << 48) - 1, (e << 48) + 2))]:
+            self.data += self.ask(4, w)
+            self.want.append(compare.canon(w))
+        for kind, size in enumerate([0, 19, 258, 3, 2, 10, 9, 0, 0]):
+            self.data += self.ask(5, kind)
+            self.want += [size, 8]
+        self.data += self.ask(6)
+        self.want += [0, 0, 0, *compare.runs([0] * 512), *compare.runs([0] * 1344)]
+        for code, ones in enumerate([[0, 6, 9, 15], [0, 5, 11, 14], [0, 5, 10, 15]]):
+            self.data += self.ask(7, code)
+            self.want += t.gate_words([0 if k not in ones else -1 if (code, k) == (2, 15) else 1 for k in range(16)])
+        for number in range(256):
+            self.data += self.ask(8, 255 - number, number)
+            self.want += f"{255 - number} {number}\n".encode()
 
     def root(self, x):
         return compare.bits(math.sqrt(x) if x >= 0 else x if x != x else float("nan"))
