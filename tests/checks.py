@@ -82,6 +82,16 @@ def public_contracts_have_two_edits():
     ]
 
 
+def faults_fit_the_code():
+    """Those of tests/oracle/faults change lines that are there."""
+    out = []
+    for path in sorted((TOP / "tests/oracle/faults").glob("*.edit")):
+        field = lambda key: re.findall(rf"^{key}: (.*)$", path.read_text(), re.M)
+        code = (CRATES / field("crate")[0] / field("file")[0]).read_text()
+        out += [f"{path.name}: {old} stands at {code.count(old)} places" for old in field("old") if code.count(old) != 1]
+    return out
+
+
 def promises():
     """The fields of each crate's record Promised, where it has one and one inhabitant of it."""
     out = {}
@@ -215,6 +225,7 @@ check("internal crates are named from inside alone", internal_crates_stay_inside
 check("public functions require nothing", public_functions_require_nothing())
 check("must-fail edits say what they break", edits_say_what_they_break())
 check("public contracts have two must-fail edits", public_contracts_have_two_edits())
+check("the oracle's faults fit the code", faults_fit_the_code())
 check("promises are proved and named", promises_are_proved_and_named())
 check("README maps every crate", readme_maps_every_crate(crates))
 check("chain offers the calls alone", chain_offers_the_calls_alone())
