@@ -9,7 +9,7 @@ mul-t4 : tie.Need-mul-t4
 mul-t4 c = omega (arith, mul-le-mul (c .pre .1) (c .pre .0))
 
 mul-t5 : tie.Need-mul-t5
-mul-t5 c = omega (arith, mul-le-mul (c .pre .1) (c .pre .1))
+mul-t5 c = omega (arith, mul-le-mul (c .pre .1) (c .pre .0), mul-le-mul (c .pre .1) (c .pre .1))
 
 add-t6 : tie.Need-add-t6
 add-t6 c = omega (arith, mul-le-mul (c .pre .1) (c .pre .0), mul-le-mul (c .pre .1) (c .pre .1))
