@@ -15,13 +15,13 @@ mul-result : tie.Need-mul-result
 mul-result c = search needs
 
 mul-result-2 : tie.Need-mul-result-2
-mul-result-2 c = let b = c .before .before .before .pre .1 in omega (arith, mul-le-mul (b .left) (b .right))
+mul-result-2 c = let b = c .before .before .before .pre .1 in omega (arith, mul-le-mul (b .left) (b .right), mul-le-mul (b .mid) (b .right))
 
 mul-result-3 : tie.Need-mul-result-3
 mul-result-3 c = search needs
 
 mul-result-4 : tie.Need-mul-result-4
-mul-result-4 c = let b = c .before .before .before .before .before .pre .1 in omega (arith, mul-le-mul (b .mid) (b .right))
+mul-result-4 c = let b = c .before .before .before .before .before .pre .1 in omega (arith, mul-le-mul (b .left) (b .right), mul-le-mul (b .mid) (b .right))
 
 add-result : tie.Need-add-result
 add-result c = let b = c .before .before .before .before .before .pre .1 in omega (arith, mul-le-mul (b .left) (b .right), mul-le-mul (b .mid) (b .right))
