@@ -62,27 +62,30 @@ def cases_differ(program):
 class States:
     """The cases of compare.py. The oracle's answers are kept, except those of the wide bonds, which are long."""
     def __init__(self, oracle):
-        self.oracle, self.kept = oracle, {}
+        self.oracle, self.kept, self.categories = oracle, {}, compare.categories(1.0, False)
+        self.order = list(self.categories)
 
-    def answered(self):
-        for category, make in compare.categories(1.0, False).items():
-            if category in self.kept:
-                yield from self.kept[category]
-                continue
-            kept = []
-            for c in compare.drawn(SEED, category, make):
-                data = c.bytes()
-                answer = c, data, compare.run(self.oracle, data)
-                if category not in ("middle", "wide"): kept.append(answer)
-                yield answer
-            if kept: self.kept[category] = kept
+    def answered(self, category):
+        if category in self.kept:
+            yield from self.kept[category]
+            return
+        kept = []
+        for c in compare.drawn(SEED, category, self.categories[category]):
+            data = c.bytes()
+            answer = c, data, compare.run(self.oracle, data)
+            if category not in ("middle", "wide"): kept.append(answer)
+            yield answer
+        if kept: self.kept[category] = kept
 
     def differ(self, program):
-        for c, data, o in self.answered():
-            try:
-                compare.check(c, o, compare.run(program, data, 60), collections.Counter())
-            except (compare.Difference, subprocess.TimeoutExpired):
-                return True
+        """The category that notices a fault comes first for the next."""
+        for category in list(self.order):
+            for c, data, o in self.answered(category):
+                try:
+                    compare.check(c, o, compare.run(program, data, 60), collections.Counter())
+                except (compare.Difference, subprocess.TimeoutExpired):
+                    self.order.sort(key=category.__ne__)
+                    return True
         return False
 
 class Exports:
