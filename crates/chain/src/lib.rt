@@ -4,7 +4,6 @@
 use columns::fill_zero;
 use columns::wide;
 use complex::Complex;
-use cuts::apply_two_qubit_gate;
 use environments::compute_left_env;
 use environments::compute_right_env;
 use environments::write_environment;
@@ -32,6 +31,7 @@ use refusals::call_refusal;
 use refusals::start_refusal;
 use refusals::walk_refusal;
 use refusals::work_room;
+use routing::apply_two_qubit_gate;
 use sound::is_share;
 ghost use mathlib.Core.Path.{_≡_};
 ghost use Rattle.model.specs.Slots.{held};

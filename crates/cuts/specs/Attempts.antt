@@ -34,7 +34,6 @@ use Rattle.cutting.specs.Shape.{standing, nanIn, Made}
 use Rattle.cutting.specs.Kept.{KeptOf}
 use Rattle.moves.specs.Ready.{Ready}
 use Rattle.cuts.specs.Pair.{pairBonds, recordedCut}
-use Rattle.cuts.specs.Runs.{swapsDown}
 
 -- ---- what is left ready
 
@@ -59,21 +58,6 @@ module _ (c r : Chain) (store out : List Float) (h : Sound c) (k : ℕ) (inside 
 
   pub ran-keeps : (gate : List (List Complex)) (n : ℕ) → ran n (held r out) ≡ adjacent gate k (held c store) → Keeps c r
   ran-keeps gate n e = subst (λ (t : Ran). Keeps c (t .state .chain)) (sym e) (adjacent-keeps gate k (held c store) h inside)
-
-  pub step-keeps : (n : ℕ) → ran n (held r out) ≡ stepped (swapStep k) (held c store) → Keeps c r
-  step-keeps n e = subst (λ (t : Ran). Keeps c (t .state .chain)) (sym e) (stepped-keeps (swapStep k) (held c store) h inside)
-
-inside-swaps : (n near m : ℕ) → near + m + 1 < n → Inside n (map swapStep (downTo near m))
-inside-swaps n near zero l = tt
-inside-swaps n near (suc m) l = (omega arith, inside-swaps n near m (omega arith))
-
-pub swaps-keep : (c r : Chain) (store out : List Float) → Sound c → (near m n : ℕ) → near + m + 1 < c .«num_qubits» → ran n (held r out) ≡ swapsDown near m (held c store) → Keeps c r
-unfolding swapsDown
-swaps-keep c r store out h near m n l e = subst (λ (t : Ran). Keeps c (t .state .chain)) (sym e) (runSteps-keeps (map swapStep (downTo near m)) (held c store) h (inside-swaps (c .«num_qubits») near m l))
-
--- two qubits stand on two sites
-pub sites-two : (c : Chain) → Sound c → (q0 q1 : ℕ) → q0 < c .«num_qubits» → q1 < c .«num_qubits» → q0 ≢ q1 → siteOf c q0 ≢ siteOf c q1
-sites-two c h q0 q1 l m two e = two (sym (h .sites .undone q0 l) ∙ ap (λ (k : ℕ). qubitAt c k) e ∙ h .sites .undone q1 m)
 
 -- ---- one cut, of the bonds b: r is the decomposition, and w begins with it
 

@@ -1,4 +1,3 @@
--- What a cut needs of a pair and leaves of the record; a run by what is left of it.
+-- What a cut needs of a pair and leaves of the record; an attempt and a cut by their branches.
 pub mod Pair
-pub mod Runs
 pub mod Attempts

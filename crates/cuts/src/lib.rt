@@ -1,4 +1,4 @@
-// Cuts of neighbouring sites with the chain record, the labels of the sites, and a gate routed to its two qubits.
+// Cuts of neighbouring sites with the chain record: one attempt, and a second with a centre where weight would be lost.
 use columns::larger;
 use columns::smaller;
 use complex::Complex;
@@ -7,9 +7,6 @@ use cutting::decompose;
 use cutting::kept_values;
 use cutting::store_left;
 use cutting::store_right;
-use gates::NamedGate;
-use gates::matrix_4x4;
-use gates::swap_gate_qubits;
 use model::Center;
 use model::Chain;
 use model::WeightSide;
@@ -18,30 +15,25 @@ use moves::prepare_center;
 use pair::Bonds;
 use truncation::Share;
 ghost use mathlib.Core.Path.{_≡_};
-ghost use mathlib.Core.Logic.{_≢_};
 ghost use mathlib.Core.Bool.{true, _||_, cond};
-ghost use Prim.Native.Nat.{_+_, _-_, _^_, _<_, _≤_};
+ghost use Prim.Native.Nat.{_+_, _^_, _<_, _≤_};
 ghost use lib.Dec.{ltb};
-ghost use Rattle.gates.specs.Gate.{swapGateQubits};
-ghost use Rattle.model.specs.Chain.{siteOf};
 ghost use Rattle.model.specs.Slots.{held, slotOf, withSite};
 ghost use Rattle.model.specs.Truncation.{recorded, cutRank, workspace};
 ghost use Rattle.model.specs.Pair.{pairSvd, leftSite, rightSite};
 ghost use Rattle.model.specs.Moves.{prepared, preparedOn, established};
 ghost use Rattle.model.specs.declared.Center.the-variants.{At};
 ghost use Rattle.model.specs.Cut.{known, canLose, tried, weightSite, cutWith, attempt, ran, adjacent};
-ghost use Rattle.model.specs.Routing.{relabelled, swapStep, stepped, gateRun};
 ghost use Rattle.model.specs.Statements.Pinned.{keepsCentre};
-ghost use Rattle.model.specs.Statements.Soundness.{Sound};
 ghost use Rattle.truncation.specs.Shares.{sharesOf};
 ghost use Rattle.cutting.specs.Shape.{shapeOf, standing, Stands, Made};
 ghost use Rattle.moves.specs.Ready.{Ready};
 ghost use Rattle.moves.specs.Steps.{Pair};
 ghost use Rattle.cuts.specs.Pair.{pairBonds, Bytes, SlotsOf, recordedCut};
 ghost use Rattle.cuts.specs.Attempts.{ranOf};
-ghost use Rattle.cuts.specs.Runs.{swapsDown, routedGate};
 
-fn wide(x: u8) -> usize
+// A byte as a machine word.
+pub fn wide(x: u8) -> usize
     ensures { λ r. ⌜ (r ≡ x) × (r ≤ 255) ⌝ }
 {
     x as usize
@@ -366,7 +358,8 @@ fn cut_again(
     run_of(second)
 }
 
-fn apply_adjacent_two_qubit(
+// A gate on the sites k and k + 1: the cut, and where weight would be lost without a centre, the cut again with one.
+pub fn apply_adjacent_two_qubit(
     chain: Chain,
     store: &mut [f64],
     work: &mut [f64],
@@ -384,118 +377,4 @@ fn apply_adjacent_two_qubit(
     } else {
         run_of(first)
     }
-}
-
-// ---- labels and the route
-
-// The qubits at sites left_site and left_site + 1 exchanged, in both maps.
-fn swap_layout_labels(chain: Chain, left_site: usize) -> Chain
-    requires { ⌜ Sound chain ⌝ }
-    requires { ⌜ «left_site» + 1 < chain .«num_qubits» ⌝ }
-    ensures { λ r. ⌜ r ≡ relabelled «left_site» chain ⌝ }
-{
-    let mut out = chain;
-    let a = wide(out.site_to_logical[left_site]);
-    let b = wide(out.site_to_logical[left_site + 1]);
-    out.site_to_logical[left_site] = b as u8;
-    out.site_to_logical[left_site + 1] = a as u8;
-    out.logical_to_site[a] = (left_site + 1) as u8;
-    out.logical_to_site[b] = left_site as u8;
-    out
-}
-
-// One swap of the route: the cut, then the labels.
-fn swap_step(chain: Chain, store: &mut [f64], work: &mut [f64], k: usize) -> Run
-    requires { ⌜ Ready chain (now store) (now work) ⌝ }
-    requires { ⌜ k + 1 < chain .«num_qubits» ⌝ }
-    ensures { λ r. ⌜ ran (r .refused) (held (r .chain) (now (store .exit))) ≡ stepped (swapStep k) (held chain (now (store .entry))) ⌝ }
-{
-    let gate = matrix_4x4(NamedGate::Swap);
-    let step = apply_adjacent_two_qubit(chain, store, work, gate, k);
-    if step.refused != 0 {
-        return step;
-    }
-    let out = step.chain;
-    Run {
-        refused: 0,
-        chain: swap_layout_labels(out, k),
-    }
-}
-
-// The swaps at far - 1, .., near + 1, up to the first that is refused.
-fn route_swaps(chain: Chain, store: &mut [f64], work: &mut [f64], near: usize, far: usize) -> Run
-    requires { ⌜ Ready chain (now store) (now work) ⌝ }
-    requires { ⌜ (near < far) × (far < chain .«num_qubits») ⌝ }
-    ensures { λ r. ⌜ ran (r .refused) (held (r .chain) (now (store .exit))) ≡ swapsDown near (far - (near + 1)) (held chain (now (store .entry))) ⌝ }
-{
-    let end = near + 1;
-    let mut out = chain;
-    let mut at = far;
-    while end < at {
-        at -= 1;
-        let step = swap_step(out, store, work, at);
-        if step.refused != 0 {
-            return step;
-        }
-        out = step.chain;
-    }
-    Run {
-        refused: 0,
-        chain: out,
-    }
-}
-
-// The swaps, then the gate at the near site.
-fn route_gate(
-    chain: Chain,
-    store: &mut [f64],
-    work: &mut [f64],
-    gate: [[Complex; 4]; 4],
-    near: usize,
-    far: usize,
-) -> Run
-    requires { ⌜ Ready chain (now store) (now work) ⌝ }
-    requires { ⌜ (near < far) × (far < chain .«num_qubits») ⌝ }
-    ensures { λ r. ⌜ ran (r .refused) (held (r .chain) (now (store .exit))) ≡ routedGate gate near (far - (near + 1)) (held chain (now (store .entry))) ⌝ }
-{
-    let step = route_swaps(chain, store, work, near, far);
-    if step.refused != 0 {
-        return step;
-    }
-    let out = step.chain;
-    apply_adjacent_two_qubit(out, store, work, gate, near)
-}
-
-// The site of a qubit.
-fn site_of(chain: Chain, q: usize) -> usize
-    requires { ⌜ q < 64 ⌝ }
-    ensures { λ r. ⌜ r ≡ siteOf chain q ⌝ }
-{
-    wide(chain.logical_to_site[q])
-}
-
-// The gate for qubits at the sites p and q, the left one first.
-fn gate_between(gate: [[Complex; 4]; 4], p: usize, q: usize) -> [[Complex; 4]; 4]
-    ensures { λ r. ⌜ r ≡ cond (ltb p q) gate (swapGateQubits gate) ⌝ }
-{
-    if p < q { gate } else { swap_gate_qubits(gate) }
-}
-
-// The gate on the qubits q0 and q1.
-pub fn apply_two_qubit_gate(
-    chain: Chain,
-    store: &mut [f64],
-    work: &mut [f64],
-    gate: [[Complex; 4]; 4],
-    q0: usize,
-    q1: usize,
-) -> Run
-    requires { ⌜ Ready chain (now store) (now work) ⌝ }
-    requires { ⌜ (q0 < chain .«num_qubits») × (q1 < chain .«num_qubits») × (q0 ≢ q1) ⌝ }
-    ensures { λ r. ⌜ ran (r .refused) (held (r .chain) (now (store .exit))) ≡ gateRun gate q0 q1 (held chain (now (store .entry))) ⌝ }
-{
-    let p = site_of(chain, q0);
-    let q = site_of(chain, q1);
-    let turned = gate_between(gate, p, q);
-    route_gate(chain, store, work, turned, smaller(p, q), larger(p, q))
 }

@@ -4,11 +4,12 @@ use native.Mathlib.Omega.{arith}
 use lib.ListN.{length}
 use Rattle.model.specs.Slots.{held}
 use Rattle.moves.specs.Ready.{Ready}
-use Rattle.cuts.specs.Attempts.{ready-keeps, step-keeps}
-use Rattle.cuts.specs.Runs.{swapsDown, swaps-on, swaps-out, swaps-done}
+use Rattle.cuts.specs.Attempts.{ready-keeps}
+use Rattle.routing.specs.Kept.{step-keeps}
+use Rattle.routing.specs.Runs.{swapsDown, swaps-on, swaps-out, swaps-done}
 use borrow.Author.Needs.{needs}
-use Rattle.cuts.proofs.route_swaps.Statement.{statement}
-use Rattle.cuts.proofs.route_swaps.Tie as tie
+use Rattle.routing.proofs.route_swaps.Statement.{statement}
+use Rattle.routing.proofs.route_swaps.Tie as tie
 
 abbrev Inv-loop : tie.InvT-loop
 Inv-loop store₀ work₀ near far end out₀ at₀ store work out at = (length store ≡ length store₀) × (length work ≡ length work₀) × (at < out .«num_qubits») × Ready out store work × (swapsDown near (at - (near + 1)) (held out store) ≡ swapsDown near (at₀ - (near + 1)) (held out₀ store₀))

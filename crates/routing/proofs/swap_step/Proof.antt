@@ -1,8 +1,8 @@
 use native.Mathlib.Omega.{arith}
 use Rattle.cuts.specs.Attempts.{ran-keeps}
-use Rattle.cuts.specs.Runs.{step-on, step-out}
-use Rattle.cuts.proofs.swap_step.Statement.{statement}
-use Rattle.cuts.proofs.swap_step.Tie as tie
+use Rattle.routing.specs.Runs.{step-on, step-out}
+use Rattle.routing.proofs.swap_step.Statement.{statement}
+use Rattle.routing.proofs.swap_step.Tie as tie
 
 matrix-4x4-requires : tie.Need-matrix-4x4-requires
 matrix-4x4-requires c κs = tt

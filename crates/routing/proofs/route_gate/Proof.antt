@@ -1,10 +1,11 @@
 use Prim.Native.Nat.{_+_, _-_}
 use native.Mathlib.Omega.{arith}
-use Rattle.cuts.specs.Attempts.{ready-keeps, swaps-keep}
-use Rattle.cuts.specs.Runs.{gate-on, gate-out}
+use Rattle.cuts.specs.Attempts.{ready-keeps}
+use Rattle.routing.specs.Kept.{swaps-keep}
+use Rattle.routing.specs.Runs.{gate-on, gate-out}
 use borrow.Author.Needs.{needs}
-use Rattle.cuts.proofs.route_gate.Statement.{statement}
-use Rattle.cuts.proofs.route_gate.Tie as tie
+use Rattle.routing.proofs.route_gate.Statement.{statement}
+use Rattle.routing.proofs.route_gate.Tie as tie
 
 route-swaps-requires : tie.Need-route-swaps-requires
 route-swaps-requires c κs = search needs

@@ -1,10 +1,10 @@
 use mathlib.Core.Path.{_∙_}
 use native.Mathlib.Omega.{arith}
-use Rattle.cuts.specs.Attempts.{sites-two}
-use Rattle.cuts.specs.Runs.{run-between}
+use Rattle.routing.specs.Kept.{sites-two}
+use Rattle.routing.specs.Runs.{run-between}
 use borrow.Author.Needs.{needs}
-use Rattle.cuts.proofs.apply_two_qubit_gate.Statement.{statement}
-use Rattle.cuts.proofs.apply_two_qubit_gate.Tie as tie
+use Rattle.routing.proofs.apply_two_qubit_gate.Statement.{statement}
+use Rattle.routing.proofs.apply_two_qubit_gate.Tie as tie
 
 site-of-requires : tie.Need-site-of-requires
 site-of-requires c κs = omega (arith, c .before .before .pre .1 .0, c .before .before .pre .0 .sound .settings .qubits .1)

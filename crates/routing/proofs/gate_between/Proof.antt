@@ -1,8 +1,8 @@
 -- By the test.
 use borrow.Author.Tests.{lt-ltb, le-ltb}
 use borrow.Author.Needs.{needs}
-use Rattle.cuts.proofs.gate_between.Statement.{statement}
-use Rattle.cuts.proofs.gate_between.Tie as tie
+use Rattle.routing.proofs.gate_between.Statement.{statement}
+use Rattle.routing.proofs.gate_between.Tie as tie
 
 swap-gate-qubits-requires : tie.Need-swap-gate-qubits-requires
 swap-gate-qubits-requires c κs = search needs

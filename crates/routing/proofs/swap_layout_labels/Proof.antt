@@ -1,8 +1,8 @@
 use Prim.Native.Nat.{_+_}
 use native.Mathlib.Omega.{arith}
 use borrow.Author.Needs.{needs}
-use Rattle.cuts.proofs.swap_layout_labels.Statement.{statement}
-use Rattle.cuts.proofs.swap_layout_labels.Tie as tie
+use Rattle.routing.proofs.swap_layout_labels.Statement.{statement}
+use Rattle.routing.proofs.swap_layout_labels.Tie as tie
 
 element-copy-out-wide : tie.Need-element-copy-out-wide
 element-copy-out-wide c = search needs
