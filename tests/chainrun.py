@@ -56,6 +56,19 @@ def one_at_a_time(records):
         return out
 
 
+def after_the_stop():
+    """Records in a later piece than the one that `0 8` was printed for."""
+    with subprocess.Popen([CHAINRUN], stdin=subprocess.PIPE, stdout=subprocess.PIPE, bufsize=0) as p:
+        p.stdin.write(b"\2\0\x09\0")
+        out = p.stdout.readline()
+        try:
+            p.stdin.write(START)
+            p.stdin.close()
+        except BrokenPipeError:
+            pass
+        return (out + p.stdout.read()).decode().splitlines()
+
+
 def longer(record):
     """The record with one byte more, its length field too."""
     (size,) = struct.unpack_from("<H", record)
@@ -111,6 +124,9 @@ got = one_at_a_time([START, *RECORDS])
 want = lines(START + b"".join(RECORDS))
 if got != want:
     faults.append(f"record by record: {got}, and not {want}")
+got = after_the_stop()
+if got != ["0 8"]:
+    faults.append(f"after the stop: {got}, and not ['0 8']")
 for f in faults[:20]:
     print(f)
 sys.exit(1 if faults else 0)
