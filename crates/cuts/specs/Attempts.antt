@@ -1,9 +1,8 @@
 -- An attempt and a cut by their branches, and that each leaves the chain ready for the next.
-use Prim.Native.Nat.{ℕ, zero, suc, _+_, _-_, _^_, _<_}
+use Prim.Native.Nat.{ℕ, _+_, _^_, _<_}
 use mathlib.Core.Path.{_≡_, sym, ap, ap₂, _∙_, subst}
-use mathlib.Core.Logic.{_≢_}
 use mathlib.Core.Bool.{Bool, true, false, not, _&&_, _||_, cond}
-use mathlib.Core.List.{List, map}
+use mathlib.Core.List.{List}
 use native.Mathlib.Omega.{arith}
 use lib.Dec.{ltb}
 use lib.ListN.{length}
@@ -13,19 +12,17 @@ use Rattle.model.specs.declared.Chain.{Chain}
 use Rattle.model.specs.declared.Center.the-variants.{At}
 use Rattle.model.specs.declared.WeightSide.{WeightSide}
 use Rattle.model.specs.declared.WeightSide.the-variants.{Right}
-use Rattle.model.specs.Chain.{siteOf, qubitAt}
 use Rattle.model.specs.Slots.{State, held, siteAt, withSite}
 use Rattle.model.specs.Svd.{Svd, values}
 use Rattle.model.specs.Truncation.{rank, resolvable, share, cutRank, workspace}
 use Rattle.model.specs.Pair.{pairSvd, leftSite, rightSite}
 use Rattle.model.specs.Moves.{Prepared, prepared, preparedOn, established}
 use Rattle.model.specs.Cut.{Tried, tried, Ran, ran, known, canLose, weightSite, cutWith, attempt, adjacent}
-use Rattle.model.specs.Routing.{downTo, swapStep, stepped}
 use Rattle.model.specs.Statements.Table.{pairOf}
 use Rattle.model.specs.Statements.Pinned.{keepsCentre, preparedFor}
 use Rattle.model.specs.Statements.Soundness.{Sound}
 use Rattle.model.specs.Laws.MoveLaws.{established-narrowed}
-use Rattle.model.specs.Laws.SoundKept.{Keeps, Inside, narrowed-keeps, prepared-narrowed, attempt-keeps, adjacent-keeps, stepped-keeps, runSteps-keeps}
+use Rattle.model.specs.Laws.SoundKept.{Keeps, narrowed-keeps, prepared-narrowed, attempt-keeps, adjacent-keeps}
 use Rattle.truncation.specs.Shares.{sharesOf}
 use Rattle.pair.specs.declared.Bonds.{Bonds}
 use Rattle.cutting.specs.declared.Decomposed.{Decomposed}

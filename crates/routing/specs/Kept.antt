@@ -7,7 +7,7 @@ use native.Mathlib.Omega.{arith}
 use lib.Ieee.{Float}
 use Rattle.model.specs.declared.Chain.{Chain}
 use Rattle.model.specs.Chain.{siteOf, qubitAt}
-use Rattle.model.specs.Slots.{State, held}
+use Rattle.model.specs.Slots.{held}
 use Rattle.model.specs.Cut.{Ran, ran}
 use Rattle.model.specs.Routing.{downTo, swapStep, stepped}
 use Rattle.model.specs.Statements.Soundness.{Sound}
