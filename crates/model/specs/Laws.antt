@@ -22,6 +22,7 @@ pub mod PinnedProof
 pub mod Promises
 pub mod QrLaws
 pub mod Refusals
+pub mod RootsOfSquares
 pub mod RouteLabels
 pub mod RunLaws
 pub mod SoundChanges

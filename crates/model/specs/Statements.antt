@@ -9,5 +9,6 @@ pub mod Demand3
 pub mod Product
 pub mod Factorings
 pub mod CutsAndMoves
+pub mod Roots
 pub mod Marked
 pub mod Promised

@@ -12,6 +12,7 @@ use Rattle.model.specs.Laws.SvdLaws as svd
 use Rattle.model.specs.Laws.QrLaws as qr
 use Rattle.model.specs.Laws.CutLaws as cuts
 use Rattle.model.specs.Laws.MoveLaws as moves
+use Rattle.model.specs.Laws.RootsOfSquares as roots
 use Rattle.model.specs.Laws.Demand3Proof as machine
 use Rattle.model.specs.Laws.Demand3Product as products
 
@@ -45,6 +46,7 @@ promised = record {
   bond-law = cuts.bond-law;
   move-law = moves.move-law;
   establish-law = moves.establish-law;
+  roots-of-squares = roots.roots-of-squares;
   demand3 = machine.demand3;
   product-clause = products.product-clause;
   run-clause = products.run-clause;

@@ -21,6 +21,7 @@ use Rattle.model.specs.Statements.Demand1Cuts.{WeightOfCall, WeightOfLis
 use Rattle.model.specs.Statements.Pinned.{Pinned}
 use Rattle.model.specs.Statements.Factorings.{RotationLaw, PairLaw, SweepLaw, QuietLaw, OrderLaw, ValueLaw, SvdLaw, TransposeLaw, GramSchmidtLaw, PassLaw, QrLaw}
 use Rattle.model.specs.Statements.CutsAndMoves.{ElementLaw, FillLaw, BondLaw, MoveLaw, EstablishLaw}
+use Rattle.model.specs.Statements.Roots.{RootsOfSquares}
 use Rattle.model.specs.Statements.Demand3.{Demand3}
 use Rattle.model.specs.Statements.Product.{ProductClause, RunClause}
 use Rattle.model.specs.Statements.Marked.{allHold, table}
@@ -61,6 +62,7 @@ pub record Promised : Type 0 where
   pub bond-law : BondLaw
   pub move-law : MoveLaw
   pub establish-law : EstablishLaw
+  pub roots-of-squares : RootsOfSquares
   -- demand 3
   pub demand3 : Demand3
   pub product-clause : ProductClause

@@ -1,0 +1,26 @@
+-- The roots that a call takes: none is of -0 or of a number below zero, so no call turns on what the root does there.
+-- They are taken in `l2Norm` (Columns.antt), `normOf` (crate root), `tangent` and `rotation` (Jacobi.antt) and `rescale` (Born.antt). Statements only; `Laws/RootsOfSquares` proves them.
+use Prim.Native.Nat.{ℕ}
+use mathlib.Core.Bool.{Bool, _||_}
+use mathlib.Core.List.{List}
+use lib.Dec.{T}
+use lib.Ieee.{Float, binary64, add, mul, isNan}
+use Rattle.complex.specs.Complex.{normSqr, oneF}
+use Rattle.complex.specs.declared.Complex.{Complex}
+use Rattle.root.specs.Units.{signClear}
+use Rattle.model.specs.Columns.{squares}
+use Rattle.model.specs.Born.{weight}
+
+-- not -0, and not below zero; a NaN may be, and its root is a NaN
+abbrev pub Rooted : Float → Type 0
+Rooted x = T (isNan x || signClear x)
+
+-- every root that a call takes is of a sum of squares
+pub record RootsOfSquares : Type 0 where
+  -- of a column's squared moduli, and of one number's
+  pub column : (w : List Float) (base n : ℕ) → Rooted (squares w base n)
+  pub size : (z : Complex) → Rooted (normSqr z)
+  -- for the tangent of a rotation's angle, and for the cosine
+  pub rotation : (t : Float) → Rooted (add binary64 oneF (mul binary64 t t))
+  -- of an outcome's weight
+  pub outcome : (bl br : ℕ) (site : List Float) (o : Bool) → Rooted (weight bl br site o)
