@@ -35,10 +35,14 @@ gram w high p q = record {
 unfoldable pub skipped : Gram → Bool
 skipped g = le (normSqr (g .pq)) (mul binary64 (mul binary64 (mul binary64 jacobiTolerance jacobiTolerance) (g .pp)) (g .qq))
 
+-- 1 + x * x, of which the tangent and the cosine take the root
+abbrev pub onePlusSquare : Float → Float
+onePlusSquare x = add binary64 oneF (mul binary64 x x)
+
 -- the tangent of the rotation's angle, of smaller magnitude
 unfoldable pub tangent : Float → Float
 tangent tau =
-    let far = rootOf (add binary64 oneF (mul binary64 tau tau)) in
+    let far = rootOf (onePlusSquare tau) in
     cond (le zeroF tau) (div binary64 (neg oneF) (add binary64 tau far)) (div binary64 oneF (add binary64 (neg tau) far))
 
 -- the rotation that makes the pair orthogonal: its cosine, its sine, and the conjugate of g_pq's phase
@@ -46,7 +50,7 @@ unfoldable pub rotation : Gram → Rotation
 rotation g =
     let size = normOf (g .pq) in
     let t = tangent (div binary64 (sub binary64 (g .qq) (g .pp)) (mul binary64 two size)) in
-    let c = div binary64 oneF (rootOf (add binary64 oneF (mul binary64 t t))) in
+    let c = div binary64 oneF (rootOf (onePlusSquare t)) in
     record { c = c; s = mul binary64 t c; «phase_conj» = conjC (unscaleC (g .pq) size) }
 
 -- what a number x of column p and the number y of column q in its row become

@@ -4,11 +4,12 @@ use Prim.Native.Nat.{ℕ}
 use mathlib.Core.Bool.{Bool, _||_}
 use mathlib.Core.List.{List}
 use lib.Dec.{T}
-use lib.Ieee.{Float, binary64, add, mul, isNan}
-use Rattle.complex.specs.Complex.{normSqr, oneF}
+use lib.Ieee.{Float, isNan}
+use Rattle.complex.specs.Complex.{normSqr}
 use Rattle.complex.specs.declared.Complex.{Complex}
 use Rattle.root.specs.Units.{signClear}
 use Rattle.model.specs.Columns.{squares}
+use Rattle.model.specs.Jacobi.{onePlusSquare}
 use Rattle.model.specs.Born.{weight}
 
 -- not -0, and not below zero; a NaN may be, and its root is a NaN
@@ -21,6 +22,6 @@ pub record RootsOfSquares : Type 0 where
   pub column : (w : List Float) (base n : ℕ) → Rooted (squares w base n)
   pub size : (z : Complex) → Rooted (normSqr z)
   -- for the tangent of a rotation's angle, and for the cosine
-  pub rotation : (t : Float) → Rooted (add binary64 oneF (mul binary64 t t))
+  pub rotation : (x : Float) → Rooted (onePlusSquare x)
   -- of an outcome's weight
   pub outcome : (bl br : ℕ) (site : List Float) (o : Bool) → Rooted (weight bl br site o)
