@@ -35,7 +35,7 @@ zero-value (fin t m e) s c p h =
     either true = refl
 
 -- 0 / c, rounded
-zero-round : (s : Bool) (c : ℕ) → 0 < c → eq (round binary64 s 0 c) zeroF ≡ true
+pub zero-round : (s : Bool) (c : ℕ) → 0 < c → eq (round binary64 s 0 c) zeroF ≡ true
 zero-round s c p = zero-value (round binary64 s 0 c) s c p (round-exact binary64 s 0 c 0 0 p (lit< tt) (lit< tt) (sym (zero-mul c)))
 
 minus-self : (s : Bool) (a c : ℕ) → 0 < c → eq (sum binary64 s a (not s) a c) zeroF ≡ true

@@ -37,3 +37,5 @@ pub mod UnitFloats
 pub mod UnitGates
 pub mod UnitSites
 pub mod Units
+pub mod ZeroFloats
+pub mod ZeroSigns

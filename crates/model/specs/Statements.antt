@@ -7,6 +7,7 @@ pub mod Demand1Sound
 pub mod Demand1Cuts
 pub mod Demand3
 pub mod Product
+pub mod ZeroSigns
 pub mod Factorings
 pub mod CutsAndMoves
 pub mod Roots

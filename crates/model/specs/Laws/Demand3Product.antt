@@ -17,10 +17,10 @@ use Rattle.model.specs.Lists.{Call, gate, named, answerOf, stateOf, answ
 use Rattle.model.specs.Phases.{Phase, _⊗_}
 use Rattle.model.specs.Machine.{Machine, fresh, refusal, reply, next, tooShort, noGate, monomial, machineAnswer, machineNext, machineAfter, machineAnswers, allowed, allAllowed}
 use Rattle.model.specs.Statements.Demand3.{F64s, AllF64, Follows, Demand3}
-use Rattle.model.specs.Statements.Product.{matrixProduct, SameGate, GateOn, by-matrix, by-name, Run, single, in-turn, Replaces, ProductClause, RunClause}
+use Rattle.model.specs.Statements.Product.{matrixProduct, SameGate, GateF64, GateOn, by-matrix, by-name, Run, single, in-turn, Replaces, ProductClause, RunClause}
 use Rattle.model.specs.Laws.Tests.{or-second}
 use Rattle.model.specs.Laws.Units.{Moves, assoc, comm}
-use Rattle.model.specs.Laws.GateProducts.{GateF64, fit-entries, named-fit, Permutes, permutes, product-moves, product-permutes, same-permutes, permutes-monomial}
+use Rattle.model.specs.Laws.GateProducts.{fit-entries, named-fit, Permutes, permutes, product-moves, product-permutes, same-permutes, permutes-monomial}
 use Rattle.model.specs.Laws.Tracked.{update, update-at, update-else}
 use Rattle.model.specs.Laws.Following.{movedBy, moved-is}
 use Rattle.model.specs.Laws.Refusals.{two-qubits}

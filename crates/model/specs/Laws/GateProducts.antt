@@ -17,19 +17,15 @@ use Rattle.gates.specs.declared.NamedGate.the-variants.{Swap, Cx, Cz}
 use Rattle.model.specs.Phases.{Phase, phase, _⊗_, equals, isPhase}
 use Rattle.model.specs.Machine.{lonePhase, monomial}
 use Rattle.model.specs.Statements.Demand3.{F64}
-use Rattle.model.specs.Statements.Product.{matrixProduct, SameGate}
+use Rattle.model.specs.Statements.Product.{matrixProduct, SameGate, GateF64}
 use Rattle.model.specs.Laws.Tests.{or-first, or-second}
 use Rattle.model.specs.Laws.Units.{Value, nought, unit, zeroOf, shape, Is, num, spot, Moves, solid, is-path, is-value, is-solid, is-equal, nought-is, real-is, imaginary-is}
 use Rattle.model.specs.Laws.UnitFloats.{equal-zero, equal-one}
 use Rattle.model.specs.Laws.UnitCut.{moved-value, summed-is}
 use Rattle.model.specs.Laws.UnitGates.{num-below, monomial-moves}
 
--- ---- gates of binary64 numbers
+-- ---- gates of binary64 numbers, by a computed test
 
-abbrev pub GateF64 : List (List Complex) → Type 0
-GateF64 g = (r c : ℕ) → r < 4 → c < 4 → F64 (entry g r c .re) × F64 (entry g r c .im)
-
--- by a computed test
 abbrev pub fitsAt : List (List Complex) → ℕ → ℕ → Bool
 fitsAt g r c = fits binary64 (entry g r c .re) && fits binary64 (entry g r c .im)
 
@@ -61,7 +57,7 @@ zero-either (fin r m e) s h =
 zero-same : (x : Float) → F64 x → (s : Bool) → T (eq x (zeroOf s)) → (t : Bool) × (x ≡ zeroOf t)
 zero-same x f s h = equal-zero x f (zero-either x s h)
 
-parts : (z w : Complex) → T (equals z w) → T (eq (z .re) (w .re)) × T (eq (z .im) (w .im))
+pub parts : (z w : Complex) → T (equals z w) → T (eq (z .re) (w .re)) × T (eq (z .im) (w .im))
 unfolding equals
 parts z w h = (and-l (eq (z .re) (w .re)) (eq (z .im) (w .im)) h, and-r (eq (z .re) (w .re)) (eq (z .im) (w .im)) h)
 

@@ -15,6 +15,7 @@ use Rattle.model.specs.Laws.MoveLaws as moves
 use Rattle.model.specs.Laws.RootsOfSquares as roots
 use Rattle.model.specs.Laws.Demand3Proof as machine
 use Rattle.model.specs.Laws.Demand3Product as products
+use Rattle.model.specs.Laws.ZeroSigns as signs
 
 pub promised : Promised
 promised = record {
@@ -50,5 +51,6 @@ promised = record {
   demand3 = machine.demand3;
   product-clause = products.product-clause;
   run-clause = products.run-clause;
+  zero-signs = signs.zero-signs;
   marked = examples.marked;
 }

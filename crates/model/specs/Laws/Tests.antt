@@ -3,7 +3,7 @@ use Prim.Native.Nat.{ℕ, zero, suc, _≤_, _<_}
 use native.Mathlib.Omega.{arith}
 use native.Mathlib.Nat.{eq-or-lt-of-le, le-of-suc-le-suc}
 use native.Mathlib.Decide.{decLt}
-use mathlib.Core.Path.{_≡_, refl, subst}
+use mathlib.Core.Path.{_≡_, refl, ap₂, subst}
 use mathlib.Core.Logic.{_⊎_, inl, inr, ⊎-elim}
 use mathlib.Core.Bool.{Bool, true, false, not, _&&_, _||_, cond, true≢false}
 use lib.Dec.{T, leb, ltb, eqb}
@@ -110,6 +110,11 @@ test-false {b = true} d n = absurd (n (d .holds tt))
 test-false {b = false} d n = refl
 
 -- ---- a test of every number below n, and of some
+
+pub every-same : (n : ℕ) (p q : ℕ → Bool) → ((k : ℕ) → k < n → p k ≡ q k) → every n p ≡ every n q
+unfolding every
+every-same zero p q h = refl
+every-same (suc n) p q h = ap₂ _&&_ (every-same n p q (λ k l. h k (omega arith))) (h n (omega arith))
 
 -- the numbers below n + 1 are those below n, and n
 one-more : (P : ℕ → Type 0) (n : ℕ) (a b : Bool) → Decides a ((k : ℕ) × (k < n) × P k) → Decides b (P n) → Decides (a || b) ((k : ℕ) × (k < suc n) × P k)

@@ -1,5 +1,6 @@
--- Floats that are exact: times 1 is the same number, for every value of binary64; the tests of a fraction against 0 and 1; and what equals 0, 1 or -1 is that number.
-use mathlib.Core.Path.{_≡_, refl, sym, ap, _∙_, subst}
+-- Floats that are exact: times 1 is the same number, for every value of binary64; the tests of a fraction against 0 and 1; what equals 0, 1 or -1 is that number; and two
+-- values of binary64 that are equal are one number, or two zeros.
+use mathlib.Core.Path.{_≡_, refl, sym, ap, _∙_, subst, subst₂}
 use mathlib.Core.Bool.{Bool, true, false, not, _&&_, _||_, Bool·beq, cond}
 use Prim.Native.Nat.{ℕ, zero, suc, _+_, _-_, _*_, _%_, _^_, _≤_, _<_}
 use native.Mathlib.Nat.{zero-lt-suc, mul-pos, zero-mul, lt-irrefl, lt-of-not-le, le-of-suc-le-suc, lt-of-lt-of-le, mul-lt-mul-of-pos-right, pow-suc}
@@ -13,7 +14,7 @@ use lib.Ieee.Fits.{and-l, and-r, up-pos, down-pos, round-fits}
 use lib.Ieee.Exact.{HasValue, round-exact}
 use lib.Ieee.Digits.{back}
 use Rattle.complex.specs.Complex.{zeroF, oneF}
-use Rattle.model.specs.Laws.Units.{zeroOf, oneOf, Fraction}
+use Rattle.model.specs.Laws.Units.{zeroOf, oneOf, Fraction, beq-eq}
 
 -- what `fits` says of a finite number that is not 0
 record Proper (m : ℕ) (e : ℤ) : Type 0 where
@@ -206,3 +207,26 @@ equal-one t (fin s (suc m) e) f h =
     let a = eqb→eq (suc m * up e * 1) (1 * down e) (and-l (eqb (suc m * up e * 1) (1 * down e)) (Bool·beq s t || eqb (suc m * up e * 1) 0) h) in
     let g = sign-of s t (suc m * up e * 1) (mul-pos (mul-pos (zero-lt-suc m) (up-pos e)) (zero-lt-suc 0)) (and-r (eqb (suc m * up e * 1) (1 * down e)) (Bool·beq s t || eqb (suc m * up e * 1) 0) h) in
     same (fin s (suc m) e) t 0 (pos 0) f proper-one (g, a)
+
+-- ---- two values of binary64 that are equal are one number, or two zeros
+
+pub data Level : Float → Float → Type 0 where
+  itself : (x : Float) → Level x x
+  zeros : (s t : Bool) → Level (zeroOf s) (zeroOf t)
+
+pub equal-level : (x y : Float) → T (fits binary64 x) → T (fits binary64 y) → T (eq x y) → Level x y
+unfolding eq
+equal-level (inf s) (inf t) f g h = subst (λ (u : Bool). Level (inf s) (inf u)) (beq-eq s t h) (itself (inf s))
+equal-level (fin s m e) (fin t n d) f g h =
+    let a = m * up e * down d in
+    let b = n * up d * down e in
+    finite-level m n f g (eqb→eq a b (and-l (eqb a b) (Bool·beq s t || eqb a 0) h)) (and-r (eqb a b) (Bool·beq s t || eqb a 0) h)
+  where
+    finite-level : (m n : ℕ) → T (fits binary64 (fin s m e)) → T (fits binary64 (fin t n d)) → m * up e * down d ≡ n * up d * down e → T (Bool·beq s t || eqb (m * up e * down d) 0) → Level (fin s m e) (fin t n d)
+    finite-level zero zero f g l k = subst₂ (λ (a b : ℤ). Level (fin s 0 a) (fin t 0 b)) (sym (zero-exp s e f)) (sym (zero-exp t d g)) (zeros s t)
+    finite-level zero (suc n) f g l k = absurd (omega (arith, mul-pos (mul-pos (zero-lt-suc n) (up-pos d)) (down-pos e)))
+    finite-level (suc m) zero f g l k = absurd (omega (arith, mul-pos (mul-pos (zero-lt-suc m) (up-pos e)) (down-pos d)))
+    finite-level (suc m) (suc n) f g l k =
+        let r = one-way (suc m) (suc n) e d (proper s m e f .odd) (proper t n d g .odd) l in
+        let o = sign-of s t (suc m * up e * down d) (mul-pos (mul-pos (zero-lt-suc m) (up-pos e)) (down-pos d)) k in
+        subst (Level (fin s (suc m) e)) (λ i. fin (o i) (r .0 i) (r .1 i)) (itself (fin s (suc m) e))

@@ -132,7 +132,7 @@ over-at f h (unit p) = signs-at (f (unit p)) (phases-at (λ p. signs (f (unit p)
 
 -- ---- what a test says
 
-beq-eq : (a b : Bool) → T (Bool·beq a b) → a ≡ b
+pub beq-eq : (a b : Bool) → T (Bool·beq a b) → a ≡ b
 beq-eq false false h = refl
 beq-eq true true h = refl
 

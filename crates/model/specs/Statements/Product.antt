@@ -31,6 +31,10 @@ matrixProduct a b = gateOf (λ r c. sumC 4 (λ k. mulC (entry a r k) (entry b k 
 abbrev pub SameGate : List (List Complex) → List (List Complex) → Type 0
 SameGate g h = (r c : ℕ) → r < 4 → c < 4 → T (equals (entry g r c) (entry h r c))
 
+-- the sixteen entries are of binary64 numbers
+abbrev pub GateF64 : List (List Complex) → Type 0
+GateF64 g = (r c : ℕ) → r < 4 → c < 4 → F64 (entry g r c .re) × F64 (entry g r c .im)
+
 -- a call is a gate on the ordered pair q0, q1, by matrix or by name, and this is its matrix
 pub data GateOn (q0 q1 : ℕ) : Call → List (List Complex) → Type 0 where
   by-matrix : (g : List (List Complex)) (work : List Float) → GateOn q0 q1 (gate q0 q1 g work) g

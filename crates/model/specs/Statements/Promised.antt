@@ -24,6 +24,7 @@ use Rattle.model.specs.Statements.CutsAndMoves.{ElementLaw, FillLaw, Bon
 use Rattle.model.specs.Statements.Roots.{RootsOfSquares}
 use Rattle.model.specs.Statements.Demand3.{Demand3}
 use Rattle.model.specs.Statements.Product.{ProductClause, RunClause}
+use Rattle.model.specs.Statements.ZeroSigns.{ZeroSigns}
 use Rattle.model.specs.Statements.Marked.{allHold, table}
 
 pub record Promised : Type 0 where
@@ -67,5 +68,6 @@ pub record Promised : Type 0 where
   pub demand3 : Demand3
   pub product-clause : ProductClause
   pub run-clause : RunClause
+  pub zero-signs : ZeroSigns
   -- document 01's marked examples
   pub marked : allHold table ≡ true
