@@ -111,7 +111,7 @@ class Exports:
             self.data += self.ask(5, kind)
             self.want += [size, 8]
         self.data += self.ask(6)
-        self.want += [0, 0, 0, *compare.runs([0] * 512), *compare.runs([0] * 1344)]
+        self.want += [0, 0, 0]
         for code, ones in enumerate([[0, 6, 9, 15], [0, 5, 11, 14], [0, 5, 10, 15]]):
             self.data += self.ask(7, code)
             self.want += t.gate_words([0 if k not in ones else -1 if (code, k) == (2, 15) else 1 for k in range(16)])

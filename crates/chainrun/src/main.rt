@@ -6,10 +6,10 @@ use stream::Run;
 use stream::end;
 use stream::feed;
 use stream::new_run;
-use stream::new_store;
-use stream::new_work;
 ghost use Prim.Native.Nat.{_≤_};
+ghost use mathlib.Core.Path.{_≡_};
 ghost use lib.ListN.{length};
+ghost use Rattle.stream.specs.Output.{newStore, newWork};
 
 // The run after a piece of the input, and whether another is to be read.
 struct Turned {
@@ -65,14 +65,17 @@ fn turn(
 }
 
 // A proved loop has to end, and nothing says that the input does. So the turns are counted down, from a number that no
-// run uses up.
+// run uses up. The store and the work slice are those of which `linesOf` of stream speaks.
 fn run_all(
     store: &mut [f64],
     work: &mut [f64],
     bytes: &mut [u8],
     piece: &mut [u8],
     text: &mut [u8],
-) {
+)
+    requires { ⌜ now store ≡ newStore ⌝ }
+    requires { ⌜ now work ≡ newWork ⌝ }
+{
     let mut run = new_run();
     let mut goes_on = true;
     let mut turns = u64::MAX;
@@ -86,8 +89,8 @@ fn run_all(
 
 // The text has room for a line for each byte of a piece, so that every byte is taken (`Promised.taken` of stream).
 fn main() {
-    let mut store = new_store();
-    let mut work = new_work();
+    let mut store = [0.0f64; 512];
+    let mut work = [0.0f64; 1344];
     let mut bytes = [0u8; 262];
     let mut piece = [0u8; 1024];
     let mut text = [0u8; 25600];

@@ -12,7 +12,6 @@ ghost use mathlib.Core.Bool.{false};
 ghost use mathlib.Core.Path.{_≡_};
 ghost use lib.ListN.{length};
 ghost use Rattle.record.specs.Frames.{whole};
-ghost use Rattle.stream.specs.Output.{newStore, newWork};
 ghost use Rattle.stream.specs.Feeding.{progress, recordDone, canTake, before, after, fed, newRun, ending, ended};
 
 // A run between two pieces: the session, how many bytes of a record are there, and whether reading has stopped.
@@ -45,19 +44,6 @@ pub fn new_run() -> Run
         pending: 0,
         stopped: false,
     }
-}
-
-// The store and the work slice that a run is lent, all +0.
-pub fn new_store() -> [f64; 512]
-    ensures { λ r. ⌜ r ≡ newStore ⌝ }
-{
-    [0.0; 512]
-}
-
-pub fn new_work() -> [f64; 1344]
-    ensures { λ r. ⌜ r ≡ newWork ⌝ }
-{
-    [0.0; 1344]
 }
 
 // Whether the bytes hold a whole record: the two of its length, and as many as that says.
