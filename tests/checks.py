@@ -42,6 +42,9 @@ INTERNAL = {
 }
 ABOVE_INTERNAL = INTERNAL | {"chain"}
 
+# Parts of the programs: they write to standard output, of which no contract speaks.
+PRINTING = {"state_text"}
+
 # Access by index is the one thing that a public function of a leaf may require.
 MAY_REQUIRE = {"complex_at", "set_complex", "u8_at", "u16_at", "u32_at", "u64_at", "f64_at"}
 
@@ -55,7 +58,8 @@ def public_functions_require_nothing():
     for path in sorted(CRATES.glob("*/src/**/*.rt")):
         if path.relative_to(CRATES).parts[0] in INTERNAL:
             continue
-        for m in re.finditer(r"^\s*pub (?:extern \"C\" )?fn (\w+)[^{]*?(?=\{)(.*?)^\{", path.read_text(), re.M | re.S):
+        # a function's head goes to the brace that begins or ends a line
+        for m in re.finditer(r"^\s*pub (?:extern \"C\" )?fn (\w+).*?(?:^\{| \{$)", path.read_text(), re.M | re.S):
             if "requires" in m.group(0) and m.group(1) not in MAY_REQUIRE:
                 out.append(f"{path.relative_to(TOP)}: {m.group(1)} has a requires")
     return out
@@ -73,12 +77,12 @@ def edits_say_what_they_break():
 
 
 def public_contracts_have_two_edits():
-    """Of programs and of access by index nothing is asked."""
+    """Of programs, their parts and access by index nothing is asked."""
     broken = [promise for _, _, promise, _ in edits.edits()]
     return [
         f"{f} has fewer than two must-fail edits"
         for f in edits.public_functions()
-        if f.split("::")[0] not in INTERNAL and f.split("::")[1] not in MAY_REQUIRE and broken.count(f) < 2
+        if f.split("::")[0] not in INTERNAL | PRINTING and f.split("::")[1] not in MAY_REQUIRE and broken.count(f) < 2
     ]
 
 

@@ -66,13 +66,7 @@ fn turn(
 
 // A proved loop has to end, and nothing says that the input does. So the turns are counted down, from a number that no
 // run uses up. The store and the work slice are those of which `linesOf` of stream speaks.
-fn run_all(
-    store: &mut [f64],
-    work: &mut [f64],
-    bytes: &mut [u8],
-    piece: &mut [u8],
-    text: &mut [u8],
-)
+fn run_all(store: &mut [f64], work: &mut [f64], bytes: &mut [u8], piece: &mut [u8], text: &mut [u8])
     requires { ⌜ now store ≡ newStore ⌝ }
     requires { ⌜ now work ≡ newWork ⌝ }
 {

@@ -1,7 +1,7 @@
 use Prim.Native.Nat.{_≤_}
 use borrow.Author.Needs.{needs}
-use Rattle.replay.proofs.flags.Statement.{statement}
-use Rattle.replay.proofs.flags.Tie as tie
+use Rattle.state_text.proofs.flags.Statement.{statement}
+use Rattle.state_text.proofs.flags.Tie as tie
 
 abbrev Inv-loop : tie.InvT-loop
 Inv-loop bits x₀ k₀ x k = k ≤ 64

@@ -1,8 +1,8 @@
 use native.Mathlib.Omega.{arith}
 use native.Mathlib.Nat.{mul-le-mul}
 use borrow.Author.Needs.{needs}
-use Rattle.replay.proofs.product.Statement.{statement}
-use Rattle.replay.proofs.product.Tie as tie
+use Rattle.state_text.proofs.product.Statement.{statement}
+use Rattle.state_text.proofs.product.Tie as tie
 
 wide-requires : tie.Need-wide-requires
 wide-requires c κs = search needs

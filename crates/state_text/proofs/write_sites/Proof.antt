@@ -1,7 +1,7 @@
 use Prim.Native.Nat.{_≤_, _-_, _*_}
 use borrow.Author.Needs.{needs}
-use Rattle.replay.proofs.write_sites.Statement.{statement}
-use Rattle.replay.proofs.write_sites.Tie as tie
+use Rattle.state_text.proofs.write_sites.Statement.{statement}
+use Rattle.state_text.proofs.write_sites.Tie as tie
 
 abbrev Inv-loop : tie.InvT-loop
 Inv-loop store chain sites slot start₀ k₀ start k = (k ≤ 64) × (start ≤ k * 65536)

@@ -1,8 +1,8 @@
 use native.Mathlib.Omega.{arith}
 use native.Mathlib.Nat.{mul-le-mul}
 use borrow.Author.Needs.{needs}
-use Rattle.replay.proofs.square.Statement.{statement}
-use Rattle.replay.proofs.square.Tie as tie
+use Rattle.state_text.proofs.square.Statement.{statement}
+use Rattle.state_text.proofs.square.Tie as tie
 
 mul-result : tie.Need-mul-result
 mul-result c = record { fits = omega (arith, mul-le-mul (c .if1 .taken) (c .if1 .taken)) }

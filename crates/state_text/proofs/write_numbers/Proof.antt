@@ -1,7 +1,7 @@
 use Prim.Native.Nat.{_-_}
 use borrow.Author.Needs.{needs}
-use Rattle.replay.proofs.write_numbers.Statement.{statement}
-use Rattle.replay.proofs.write_numbers.Tie as tie
+use Rattle.state_text.proofs.write_numbers.Statement.{statement}
+use Rattle.state_text.proofs.write_numbers.Tie as tie
 
 abbrev Inv-loop : tie.InvT-loop
 Inv-loop numbers from to end k₀ t6 k = Unit {0}

@@ -2,8 +2,8 @@ use Prim.Native.Nat.{_≤_, _-_}
 use mathlib.Core.Path.{_≡_}
 use lib.ListN.{length}
 use borrow.Author.Needs.{needs}
-use Rattle.replay.proofs.write_environments.Statement.{statement}
-use Rattle.replay.proofs.write_environments.Tie as tie
+use Rattle.state_text.proofs.write_environments.Statement.{statement}
+use Rattle.state_text.proofs.write_environments.Tie as tie
 
 abbrev Inv-loop : tie.InvT-loop
 Inv-loop chain store work₀ out₀ n sites site₀ work out site = (site ≤ 65) × (length work ≡ length work₀) × (length out ≡ length out₀)

@@ -1,7 +1,7 @@
 use Prim.Native.Nat.{_≤_, _-_}
 use borrow.Author.Needs.{needs}
-use Rattle.replay.proofs.write_labels.Statement.{statement}
-use Rattle.replay.proofs.write_labels.Tie as tie
+use Rattle.state_text.proofs.write_labels.Statement.{statement}
+use Rattle.state_text.proofs.write_labels.Tie as tie
 
 abbrev Inv-loop : tie.InvT-loop
 Inv-loop n labels sites k₀ t7 t8 k = k ≤ 64

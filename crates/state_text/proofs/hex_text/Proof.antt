@@ -2,8 +2,8 @@ use Prim.Native.Nat.{_≤_}
 use mathlib.Core.Path.{_≡_}
 use lib.ListN.{length}
 use borrow.Author.Needs.{needs}
-use Rattle.replay.proofs.hex_text.Statement.{statement}
-use Rattle.replay.proofs.hex_text.Tie as tie
+use Rattle.state_text.proofs.hex_text.Statement.{statement}
+use Rattle.state_text.proofs.hex_text.Tie as tie
 
 abbrev Inv-loop : tie.InvT-loop
 Inv-loop x text₀ rest₀ k₀ text rest k = (k ≤ 16) × (17 ≡ length text)
