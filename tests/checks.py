@@ -38,7 +38,7 @@ def folders_are_listed(crates):
 # Kernels, moves and cuts: their functions have requirements and are reached through the public calls of `chain` alone.
 INTERNAL = {
     "columns", "jacobi", "svd", "truncation", "qr", "pair", "fills", "gauge", "walks", "born", "sound", "moves", "cutting", "cuts",
-    "routing", "environments", "outcomes", "refusals", "fresh",
+    "routing", "environments", "outcomes", "refusals", "fresh", "accepted",
 }
 ABOVE_INTERNAL = INTERNAL | {"chain"}
 

@@ -1,121 +1,83 @@
--- What a call leaves is what the model defines, refused or run. k is the number that the call is refused under, 0 where it is not.
-use Prim.Native.Nat.{ℕ, zero, suc}
+-- What a refused call leaves is what the model defines, and so is what start and a gate by its name leave. k is the number that the call is refused under, 0 where it is not.
+use Prim.Native.Nat.{ℕ, _≤_}
 use mathlib.Core.Path.{_≡_, refl, sym, ap, _∙_}
-use mathlib.Core.List.{List, _++_}
+use mathlib.Core.List.{List}
 use mathlib.Core.Bool.{Bool, true, false, not, cond}
-use lib.Dec.{T, ltb, eqb}
 use native.Mathlib.Omega.{arith}
-use lib.ListN.{length, drop}
+use lib.Dec.{T, ltb, eqb}
+use borrow.Author.Tests.{ltb-false}
+use lib.ListN.{length}
 use lib.Ieee.{Float}
 use Rattle.complex.specs.declared.Complex.{Complex}
 use Rattle.gates.specs.declared.NamedGate.{NamedGate}
 use Rattle.gates.specs.Named.{matrixOf}
 use Rattle.model.specs.declared.Chain.{Chain}
-use Rattle.model.specs.declared.Answer.{Answer}
 use Rattle.model.specs.declared.Answer.the-variants as answer
 use Rattle.model.specs.declared.Applied.{Applied}
 use Rattle.model.specs.declared.Applied.the-variants as applied
-use Rattle.model.specs.declared.Projected.{Projected}
 use Rattle.model.specs.declared.Projected.the-variants as projected
-use Rattle.model.specs.declared.Measured.{Measured}
 use Rattle.model.specs.declared.Measured.the-variants as measured
 use Rattle.model.specs.declared.Contracted.the-variants as contracted
-use Rattle.model.specs.Chain.{siteOf}
 use Rattle.model.specs.Slots.{State, storeRoom}
-use Rattle.model.specs.Cut.{Ran, ran}
-use Rattle.model.specs.Routing.{gateRun}
-use Rattle.model.specs.Born.{drawnAt, projectedAt, resetAt, readied}
 use Rattle.model.specs.Environment.{Env}
 use Rattle.model.specs.Sound.{settingsFit}
 use Rattle.model.specs.Start.{freshChain, freshStore, zeroChain}
-use Rattle.model.specs.Calls.{After, after, Started, started, startCall, cleared, gateRefusal, appliedOf, gateAfter, gateCall, namedGateCall, projectRefusal, projectAnswer, projectCall, measureRefusal, flagged, measureCall, resetRefusal, resetCall, walked, envRefusal, envAfter}
-use Rattle.chain.specs.Accepted.{startNumber}
+use Rattle.model.specs.Calls.{After, after, Started, started, startCall, gateRefusal, gateCall, namedGateCall, projectRefusal, projectCall, measureRefusal, measureCall, resetRefusal, resetCall, walked, envRefusal, envAfter}
+use Rattle.model.specs.Laws.SoundFacts.{settings-facts}
 
--- ---- the test of the number
+-- ---- a refused call
 
-module _ {A : Type 0} {k number : ℕ} (e : k ≡ number) where
-  ended : (x y z : A) → k ≡ 0 → z ≡ x → z ≡ cond (eqb number 0) x y
-  ended x y z none h = h ∙ ap (λ (n : ℕ). cond (eqb n 0) x y) (sym (sym e ∙ none))
+turned : {A : Type 0} (f : ℕ → A) (x : A) {k number : ℕ} → k ≡ number → (k ≡ 0 → ⊥) → f k ≡ cond (eqb number 0) x (f number)
+turned f x {k} {number} e above = ap f e ∙ either (eqb number 0) (lib.Dec.eqb→eq number 0)
+  where
+    either : (b : Bool) → (T b → number ≡ 0) → f number ≡ cond b x (f number)
+    either true g = absurd (above (e ∙ g tt))
+    either false g = refl
 
-  turned : (f : ℕ → A) (x : A) → (k ≡ 0 → ⊥) → f k ≡ cond (eqb number 0) x (f number)
-  turned f x above = ap f e ∙ either (eqb number 0) (lib.Dec.eqb→eq number 0)
-    where
-      either : (b : Bool) → (T b → number ≡ 0) → f number ≡ cond b x (f number)
-      either true g = absurd (above (e ∙ g tt))
-      either false g = refl
-
--- ---- a gate
-
-pub applied-above : (k : ℕ) → (k ≡ 0 → ⊥) → applied.Refused k ≡ appliedOf k
-applied-above zero above = absurd (above refl)
-applied-above (suc k) above = refl
-
-module _ (s : State) (work : List Float) (q0 q1 : ℕ) (gate : List (List Complex)) (k : ℕ) (e : k ≡ gateRefusal s work q0 q1 gate) where
-  pub gate-ends : (refused : ℕ) (a : Applied) (t : State) (left : List Float) → k ≡ 0 → a ≡ appliedOf refused → ran refused t ≡ gateRun gate q0 q1 s → left ≡ cleared (s .chain) work
-      → after a t left ≡ gateCall s work q0 q1 gate
+module _ (s : State) (work : List Float) where
+  pub gate-refused : (q0 q1 : ℕ) (gate : List (List Complex)) (k : ℕ) → k ≡ gateRefusal s work q0 q1 gate → (k ≡ 0 → ⊥) → after (applied.Refused k) s work ≡ gateCall s work q0 q1 gate
   unfolding gateCall
-  gate-ends refused a t left z ea er el =
-      ended e _ _ _ z ((λ i. after (ea i) t (el i)) ∙ ap (λ (r : Ran). gateAfter r (cleared (s .chain) work)) er)
+  gate-refused q0 q1 gate k = turned (λ (n : ℕ). after (applied.Refused n) s work) _
 
-  pub gate-refused : (k ≡ 0 → ⊥) → after (applied.Refused k) s work ≡ gateCall s work q0 q1 gate
-  unfolding gateCall
-  gate-refused = turned e (λ (n : ℕ). after (applied.Refused n) s work) _
+  pub project-refused : (q : ℕ) (o : Bool) (k : ℕ) → k ≡ projectRefusal s work q → (k ≡ 0 → ⊥) → after (projected.Refused k) s work ≡ projectCall s work q o
+  unfolding projectCall
+  project-refused q o k = turned (λ (n : ℕ). after (projected.Refused n) s work) _
+
+  pub measure-refused : (q flag : ℕ) (draw : Float) (k : ℕ) → k ≡ measureRefusal s work q flag draw → (k ≡ 0 → ⊥) → after (measured.Refused k) s work ≡ measureCall s work q flag draw
+  unfolding measureCall
+  measure-refused q flag draw k = turned (λ (n : ℕ). after (measured.Refused n) s work) _
+
+  pub reset-refused : (q : ℕ) (draw : Float) (k : ℕ) → k ≡ resetRefusal s work q draw → (k ≡ 0 → ⊥) → after (answer.Refused k) s work ≡ resetCall s work q draw
+  unfolding resetCall
+  reset-refused q draw k = turned (λ (n : ℕ). after (answer.Refused n) s work) _
+
+  pub walk-refused : (out : List Float) (end site : ℕ) (e : Env) (k : ℕ) → k ≡ envRefusal s work out end site → (k ≡ 0 → ⊥) → walked (contracted.Refused k) work out ≡ envAfter (envRefusal s work out end site) e s work out
+  walk-refused out end site e k = turned (λ (n : ℕ). walked (contracted.Refused n) work out) _
+
+-- ---- a gate by its name
 
 pub named-ends : (s : State) (work : List Float) (q0 q1 : ℕ) (name : NamedGate) (gate : List (List Complex)) (x : After Applied)
     → gate ≡ matrixOf name → x ≡ gateCall s work q0 q1 gate → x ≡ namedGateCall s work q0 q1 name
 unfolding namedGateCall
 named-ends s work q0 q1 name gate x e f = f ∙ ap (gateCall s work q0 q1) e
 
--- ---- a projection, a measurement, a reset; the site is the qubit's
+-- ---- start: its number, by whether the settings fit and whether the store is too short
 
-module _ (s : State) (work : List Float) (q : ℕ) (o : Bool) (k : ℕ) (e : k ≡ projectRefusal s work q) where
-  pub project-ends : (site : ℕ) (a : Projected) (t : State) (left : List Float) → k ≡ 0 → site ≡ siteOf (s .chain) q → a ≡ projectAnswer site o (readied site s)
-      → t ≡ projectedAt site o (readied site s) → left ≡ cleared (s .chain) work → after a t left ≡ projectCall s work q o
-  unfolding projectCall
-  project-ends site a t left z es ea et el =
-      ended e _ _ _ z ((λ i. after (ea i) (et i) (el i)) ∙ ap (λ (k : ℕ). after (projectAnswer k o (readied k s)) (projectedAt k o (readied k s)) (cleared (s .chain) work)) es)
+abbrev pub startNumber : Bool → Bool → ℕ
+startNumber fit short = cond (not fit) 1 (cond short 2 0)
 
-  pub project-refused : (k ≡ 0 → ⊥) → after (projected.Refused k) s work ≡ projectCall s work q o
-  unfolding projectCall
-  project-refused = turned e (λ (n : ℕ). after (projected.Refused n) s work) _
-
-module _ (s : State) (work : List Float) (q flag : ℕ) (draw : Float) (k : ℕ) (e : k ≡ measureRefusal s work q flag draw) where
-  abbrev drawn : ℕ → Bool
-  drawn site = drawnAt site draw (readied site s)
-
-  pub measure-ends : (site : ℕ) (a : Measured) (t : State) (left : List Float) → k ≡ 0 → site ≡ siteOf (s .chain) q → a ≡ measured.Bit (drawn site)
-      → t ≡ flagged flag (drawn site) (projectedAt site (drawn site) (readied site s)) → left ≡ cleared (s .chain) work → after a t left ≡ measureCall s work q flag draw
-  unfolding measureCall
-  measure-ends site a t left z es ea et el =
-      ended e _ _ _ z ((λ i. after (ea i) (et i) (el i)) ∙ ap (λ (k : ℕ). after (measured.Bit (drawn k)) (flagged flag (drawn k) (projectedAt k (drawn k) (readied k s))) (cleared (s .chain) work)) es)
-
-  pub measure-refused : (k ≡ 0 → ⊥) → after (measured.Refused k) s work ≡ measureCall s work q flag draw
-  unfolding measureCall
-  measure-refused = turned e (λ (n : ℕ). after (measured.Refused n) s work) _
-
-module _ (s : State) (work : List Float) (q : ℕ) (draw : Float) (k : ℕ) (e : k ≡ resetRefusal s work q draw) where
-  pub reset-ends : (site : ℕ) (a : Answer) (t : State) (left : List Float) → k ≡ 0 → site ≡ siteOf (s .chain) q → a ≡ answer.Done
-      → t ≡ resetAt site (drawnAt site draw (readied site s)) (readied site s) → left ≡ cleared (s .chain) work → after a t left ≡ resetCall s work q draw
-  unfolding resetCall
-  reset-ends site a t left z es ea et el =
-      ended e _ _ _ z ((λ i. after (ea i) (et i) (el i)) ∙ ap (λ (k : ℕ). after answer.Done (resetAt k (drawnAt k draw (readied k s)) (readied k s)) (cleared (s .chain) work)) es)
-
-  pub reset-refused : (k ≡ 0 → ⊥) → after (answer.Refused k) s work ≡ resetCall s work q draw
-  unfolding resetCall
-  reset-refused = turned e (λ (n : ℕ). after (answer.Refused n) s work) _
-
--- ---- environments
-
-module _ (s : State) (work out : List Float) (end site : ℕ) (e : Env) (k : ℕ) (p : k ≡ envRefusal s work out end site) where
-  pub walk-ends : (dim : ℕ) (entries left result : List Float) → k ≡ 0 → dim ≡ e .dim → entries ≡ e .entries → left ≡ cleared (s .chain) work → result ≡ entries ++ drop (length entries) out
-      → walked (contracted.Dim dim) left result ≡ envAfter (envRefusal s work out end site) e s work out
-  walk-ends dim entries left result z ed ee el er =
-      ended p _ _ _ z (λ i. walked (contracted.Dim (ed i)) (el i) ((er ∙ ap (λ (xs : List Float). xs ++ drop (length xs) out) ee) i))
-
-  pub walk-refused : (k ≡ 0 → ⊥) → walked (contracted.Refused k) work out ≡ envAfter (envRefusal s work out end site) e s work out
-  walk-refused = turned p (λ (n : ℕ). walked (contracted.Refused n) work out) _
-
--- ---- start
+-- the settings are in range, and the store holds n sites
+pub start-fits : (n d : ℕ) (epsilon clamp : Float) (exponent : ℕ) (store : List Float) (k : ℕ) → k ≡ startNumber (settingsFit n d epsilon clamp exponent) (ltb (length store) (storeRoom n d)) → k ≡ 0
+    → (n ≤ 64) × (1 ≤ d) × (d ≤ 128) × (storeRoom n d ≤ length store)
+start-fits n d epsilon clamp exponent store k e z = go (settingsFit n d epsilon clamp exponent) (ltb (length store) (storeRoom n d)) refl refl (sym e ∙ z)
+  where
+    go : (fit short : Bool) → settingsFit n d epsilon clamp exponent ≡ fit → ltb (length store) (storeRoom n d) ≡ short → startNumber fit short ≡ 0
+        → (n ≤ 64) × (1 ≤ d) × (d ≤ 128) × (storeRoom n d ≤ length store)
+    go true false f l z =
+        let h = settings-facts n d epsilon clamp exponent (rw f tt) in
+        (h .qubits .1, h .cap .0, h .cap .1, ltb-false (length store) (storeRoom n d) l)
+    go true true f l z = absurd (omega (arith, z))
+    go false short f l z = absurd (omega (arith, z))
 
 module _ (n d : ℕ) (epsilon clamp : Float) (exponent : ℕ) (store : List Float) (k : ℕ) (e : k ≡ startNumber (settingsFit n d epsilon clamp exponent) (ltb (length store) (storeRoom n d))) where
   -- the call, by its two tests

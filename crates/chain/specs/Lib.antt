@@ -1,3 +1,2 @@
--- What an accepted call has, and that what each call leaves is what the model defines.
-pub mod Accepted
+-- That what each call leaves is what the model defines.
 pub mod Ends

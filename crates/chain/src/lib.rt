@@ -1,12 +1,13 @@
 // The public calls on a chain of qubits. Each takes the chain record by value and hands it back beside its answer; the
 // amplitudes lie in a lent store, and a lent work slice is used meanwhile. Every call is defined on all inputs: what is
 // refused, under which number, and what is left, stands in `model`, specs/Calls.antt.
-use columns::fill_zero;
-use columns::wide;
+use accepted::run_gate;
+use accepted::run_left_environment;
+use accepted::run_measure;
+use accepted::run_project;
+use accepted::run_reset;
+use accepted::run_right_environment;
 use complex::Complex;
-use environments::compute_left_env;
-use environments::compute_right_env;
-use environments::write_environment;
 use fresh::fresh_chain;
 use fresh::fresh_store;
 use fresh::zero_chain;
@@ -24,18 +25,13 @@ use model::Projected;
 use model::Projection;
 use model::Reset;
 use model::Start;
-use outcomes::apply_measure;
-use outcomes::apply_reset;
-use outcomes::project_z_outcome;
 use refusals::call_refusal;
 use refusals::start_refusal;
 use refusals::walk_refusal;
-use refusals::work_room;
-use routing::apply_two_qubit_gate;
 use sound::is_share;
 ghost use mathlib.Core.Path.{_≡_};
 ghost use Rattle.model.specs.Slots.{held};
-ghost use Rattle.model.specs.Calls.{after, started, walked, appliedOf, startCall, gateCall, namedGateCall, projectCall, measureCall, resetCall, leftEnvironmentCall, rightEnvironmentCall};
+ghost use Rattle.model.specs.Calls.{after, started, walked, startCall, gateCall, namedGateCall, projectCall, measureCall, resetCall, leftEnvironmentCall, rightEnvironmentCall};
 
 // A fresh chain of n qubits under the cap d.
 pub fn start(n: usize, d: usize, epsilon: f64, clamp: f64, exponent: u8, store: &mut [f64]) -> Start
@@ -59,17 +55,6 @@ pub fn start(n: usize, d: usize, epsilon: f64, clamp: f64, exponent: u8, store: 
 
 // ---- gates
 
-// What a run's number says as an answer.
-fn applied(refused: u8) -> Applied
-    ensures { λ r. ⌜ r ≡ appliedOf refused ⌝ }
-{
-    if refused == 0 {
-        Applied::Done
-    } else {
-        Applied::Refused(refused)
-    }
-}
-
 // A gate on the qubits q0 and q1, routed to them by swaps.
 pub fn apply_gate(
     chain: Chain,
@@ -90,14 +75,7 @@ pub fn apply_gate(
             chain: chain,
         };
     }
-    let room = work_room(chain.max_bond_dim);
-    let run = apply_two_qubit_gate(chain, store, &mut work[..room], gate, q0, q1);
-    fill_zero(&mut work[..room]);
-    let after = run.chain;
-    Gated {
-        answer: applied(run.refused),
-        chain: after,
-    }
+    run_gate(chain, store, work, q0, q1, gate)
 }
 
 // A gate by its name.
@@ -128,11 +106,7 @@ pub fn project(chain: Chain, store: &mut [f64], work: &mut [f64], q: usize, bit:
             chain: chain,
         };
     }
-    let room = work_room(chain.max_bond_dim);
-    let site = wide(chain.logical_to_site[q]);
-    let out = project_z_outcome(chain, store, &mut work[..room], site, bit);
-    fill_zero(&mut work[..room]);
-    out
+    run_project(chain, store, work, q, bit)
 }
 
 // Qubit q measured by a draw, into a flag.
@@ -154,11 +128,7 @@ pub fn measure(
             chain: chain,
         };
     }
-    let room = work_room(chain.max_bond_dim);
-    let site = wide(chain.logical_to_site[q]);
-    let out = apply_measure(chain, store, &mut work[..room], site, flag, draw);
-    fill_zero(&mut work[..room]);
-    out
+    run_measure(chain, store, work, q, flag, draw)
 }
 
 // Qubit q reset to 0, by a draw.
@@ -173,11 +143,7 @@ pub fn reset(chain: Chain, store: &mut [f64], work: &mut [f64], q: usize, draw: 
             chain: chain,
         };
     }
-    let room = work_room(chain.max_bond_dim);
-    let site = wide(chain.logical_to_site[q]);
-    let out = apply_reset(chain, store, &mut work[..room], site, draw);
-    fill_zero(&mut work[..room]);
-    out
+    run_reset(chain, store, work, q, draw)
 }
 
 // ---- environments: the record and the store are only read
@@ -199,11 +165,7 @@ pub fn left_environment(
     if k != 0 {
         return Contracted::Refused(k);
     }
-    let room = work_room(chain.max_bond_dim);
-    let left_dim = compute_left_env(chain, store, &mut work[..room], from, site);
-    write_environment(out, work, left_dim);
-    fill_zero(&mut work[..room]);
-    Contracted::Dim(left_dim)
+    run_left_environment(chain, store, work, out, from, site)
 }
 
 // The right environment of a site, the sites from `to` back to the next one contracted, into the result slice.
@@ -223,9 +185,5 @@ pub fn right_environment(
     if k != 0 {
         return Contracted::Refused(k);
     }
-    let room = work_room(chain.max_bond_dim);
-    let right_dim = compute_right_env(chain, store, &mut work[..room], site, to);
-    write_environment(out, work, right_dim);
-    fill_zero(&mut work[..room]);
-    Contracted::Dim(right_dim)
+    run_right_environment(chain, store, work, out, site, to)
 }

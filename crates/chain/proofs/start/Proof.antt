@@ -1,6 +1,5 @@
 -- Refused under 1 or 2, or else a fresh chain in the slots of the store.
-use Rattle.chain.specs.Accepted.{start-fits}
-use Rattle.chain.specs.Ends.{start-ends, start-refused}
+use Rattle.chain.specs.Ends.{start-fits, start-ends, start-refused}
 use borrow.Author.Needs.{needs}
 use Rattle.chain.proofs.start.Statement.{statement}
 use Rattle.chain.proofs.start.Tie as tie

@@ -1,7 +1,7 @@
-use Rattle.chain.specs.Ends.{applied-above}
+use Rattle.accepted.specs.Ends.{applied-above}
 use borrow.Author.Needs.{needs}
-use Rattle.chain.proofs.applied.Statement.{statement}
-use Rattle.chain.proofs.applied.Tie as tie
+use Rattle.accepted.proofs.applied.Statement.{statement}
+use Rattle.accepted.proofs.applied.Tie as tie
 
 returns : tie.Need-returns
 returns c = search needs

@@ -1,55 +1,33 @@
 -- What a call that is not refused has: a sound record, slices that are long enough, indices in range; and its work slice, lent as far as it is needed and +0 there afterwards.
 use Prim.Native.Nat.{ℕ, _*_, _≤_, _<_}
-use mathlib.Core.Path.{_≡_, refl, sym, ap, _∙_}
+use mathlib.Core.Path.{_≡_, _∙_}
 use mathlib.Core.List.{List, _++_}
-use mathlib.Core.Bool.{Bool, true, false, not, cond, _||_}
+use mathlib.Core.Bool.{false, not, _||_}
 use native.Mathlib.Nat.{mul-le-mul}
 use native.Mathlib.Omega.{arith}
-use lib.Dec.{leb, ltb, eqb}
-use borrow.Author.Tests.{leb-false, ltb-false}
+use lib.Dec.{leb, ltb}
+use borrow.Author.Tests.{leb-false, ltb-false, eq-eqb}
 use lib.ListN.{length, take, drop, replicate, length-append, length-drop}
 use lib.Seq.{length-take-le, take-at, drop-at, take-append-le}
 use lib.Ieee.{Float}
 use Rattle.complex.specs.Complex.{zeroF}
-use Rattle.model.specs.Slots.{State, storeRoom, workRoom}
-use Rattle.model.specs.Sound.{share01, settingsFit, sound}
+use Rattle.model.specs.Slots.{State, workRoom}
+use Rattle.model.specs.Sound.{share01, sound}
 use Rattle.model.specs.Calls.{short, outside, measureRefusal, envRoom, envRefusal, cleared}
 use Rattle.model.specs.Statements.Soundness.{Sound}
-use Rattle.model.specs.Laws.SoundFacts.{settings-facts, facts-sound}
+use Rattle.model.specs.Laws.SoundFacts.{facts-sound}
 use Rattle.model.specs.Laws.AfterStates.{not-short}
 use Rattle.model.specs.Laws.Refusals.{firstOf-none, passes-sound, not-outside}
 use Rattle.model.specs.Laws.Tests.{neither}
 use Rattle.moves.specs.Ready.{Ready}
 use Rattle.environments.specs.Walk.{Walkable}
 
--- ---- start's number, by whether the settings fit and whether the store is too short
-
-abbrev pub startNumber : Bool → Bool → ℕ
-startNumber fit short = cond (not fit) 1 (cond short 2 0)
-
--- the settings are in range, and the store holds n sites
-pub start-fits : (n d : ℕ) (epsilon clamp : Float) (exponent : ℕ) (store : List Float) (k : ℕ) → k ≡ startNumber (settingsFit n d epsilon clamp exponent) (ltb (length store) (storeRoom n d)) → k ≡ 0
-    → (n ≤ 64) × (1 ≤ d) × (d ≤ 128) × (storeRoom n d ≤ length store)
-start-fits n d epsilon clamp exponent store k e z = go (settingsFit n d epsilon clamp exponent) (ltb (length store) (storeRoom n d)) refl refl (sym e ∙ z)
-  where
-    go : (fit short : Bool) → settingsFit n d epsilon clamp exponent ≡ fit → ltb (length store) (storeRoom n d) ≡ short → startNumber fit short ≡ 0
-        → (n ≤ 64) × (1 ≤ d) × (d ≤ 128) × (storeRoom n d ≤ length store)
-    go true false f l z =
-        let h = settings-facts n d epsilon clamp exponent (rw f tt) in
-        (h .qubits .1, h .cap .0, h .cap .1, ltb-false (length store) (storeRoom n d) l)
-    go true true f l z = absurd (omega (arith, z))
-    go false short f l z = absurd (omega (arith, z))
-
 -- ---- where the number is 0
 
--- as the model's laws test it
-pub zero-number : {k number : ℕ} → k ≡ number → k ≡ 0 → eqb number 0 ≡ true
-zero-number e z = ap (λ (n : ℕ). eqb n 0) (sym e ∙ z)
-
 -- of a measurement: the flag is one of 64
-pub flag-below : (s : State) (work : List Float) (q flag : ℕ) (draw : Float) → eqb (measureRefusal s work q flag draw) 0 ≡ true → flag < 64
+pub flag-below : (s : State) (work : List Float) (q flag : ℕ) (draw : Float) → measureRefusal s work q flag draw ≡ 0 → flag < 64
 flag-below s work q flag draw e =
-    let p = firstOf-none (not (sound (s .chain))) (short (s .chain) (s .store) work) (outside (s .chain) q || leb 64 flag) (not (share01 draw)) e in
+    let p = firstOf-none (not (sound (s .chain))) (short (s .chain) (s .store) work) (outside (s .chain) q || leb 64 flag) (not (share01 draw)) (eq-eqb _ 0 e) in
     leb-false 64 flag (neither (outside (s .chain) q) (leb 64 flag) (p .four) .1)
 
 -- of a walk: the result slice is long enough, and its ends are in the chain
@@ -60,11 +38,11 @@ pub record AcceptedWalk (s : State) (work out : List Float) (end site : ℕ) : T
   pub end-below : end < s .chain .«num_qubits»
   pub site-within : site ≤ s .chain .«num_qubits»
 
-pub walk-accepted : (s : State) (work out : List Float) (end site : ℕ) → eqb (envRefusal s work out end site) 0 ≡ true → AcceptedWalk s work out end site
+pub walk-accepted : (s : State) (work out : List Float) (end site : ℕ) → envRefusal s work out end site ≡ 0 → AcceptedWalk s work out end site
 walk-accepted s work out end site e =
     let lacking = ltb (length out) (envRoom (s .chain .«max_bond_dim»)) in
     let past = ltb (s .chain .«num_qubits») site in
-    let p = firstOf-none (not (sound (s .chain))) (short (s .chain) (s .store) work || lacking) (outside (s .chain) end || past) false e in
+    let p = firstOf-none (not (sound (s .chain))) (short (s .chain) (s .store) work || lacking) (outside (s .chain) end || past) false (eq-eqb _ 0 e) in
     let slices = neither (short (s .chain) (s .store) work) lacking (p .two) in
     let indices = neither (outside (s .chain) end) past (p .four) in
     record {
