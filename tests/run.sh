@@ -8,10 +8,9 @@ set -euo pipefail
 cd "$(dirname "$0")/.."
 
 # A check begins by writing the libraries that it stands on, up to 300 MB, to a scratch folder: in memory, where there is
-# room, that is seconds less. Checks run in batches that wait for their slowest, so there are more of them than processors.
+# room, that is seconds less.
 free_kib() { df -k --output=avail "$1" 2>/dev/null | tail -n 1; }
 if [ -z "${TMPDIR:-}" ] && [ -w /dev/shm ] && [ "$(free_kib /dev/shm)" -gt 4000000 ]; then export TMPDIR=/dev/shm; fi
-export RT_JOBS=${RT_JOBS:-4}
 
 step() { printf '== %s\n' "$*"; }
 
