@@ -9,8 +9,8 @@ cd "$(dirname "$0")/.."
 
 # A check begins by writing the libraries that it stands on, up to 300 MB, to a scratch folder: in memory, where there is
 # room, that is seconds less.
-free_kib() { df -k --output=avail "$1" 2>/dev/null | tail -n 1; }
-if [ -z "${TMPDIR:-}" ] && [ -w /dev/shm ] && [ "$(free_kib /dev/shm)" -gt 4000000 ]; then export TMPDIR=/dev/shm; fi
+room=$(df -k --output=avail /dev/shm 2>/dev/null | tail -n 1) || true
+if [ -w /dev/shm ] && [ "${room:-0}" -gt 4000000 ]; then export TMPDIR=${TMPDIR:-/dev/shm}; fi
 
 step() { printf '== %s\n' "$*"; }
 
