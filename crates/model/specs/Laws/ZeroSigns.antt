@@ -132,8 +132,12 @@ run-same g h l q0 q1 s =
     let r = routeOf (siteOf (s .chain) q0) (siteOf (s .chain) q1) in
     runs-same _ _ (turned-level (r .first) g h l) (map swapStep (r .swaps)) (r .near) s
 
+call-same : (s : State) (work : List Float) (q0 q1 : ℕ) (g h : List (List Complex)) → LevelGate g h → gateCall s work q0 q1 g ≡ gateCall s work q0 q1 h
+unfolding gateCall
+call-same s work q0 q1 g h l = rw (finite-same g h l, run-same g h l)
+
 pub zero-signs : ZeroSigns
-unfolding ZeroSigns gateCall
-zero-signs s work q0 q1 g h f k e =
-    let l = same-level g h f k e in
-    rw (finite-same g h l, run-same g h l)
+zero-signs = record {
+  call = λ s work q0 q1 g h f k e. call-same s work q0 q1 g h (same-level g h f k e);
+  cut = λ j s g h f k e. adjacent-same g h (same-level g h f k e) j s;
+}
