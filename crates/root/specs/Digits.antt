@@ -1,147 +1,68 @@
--- The whole root of a number, one binary digit a step and highest first, two of the number's digits coming in with each: what the function `digits` computes, that it is a whole root, and the room it needs in 64 bits.
+-- The whole root of a number, one binary digit a turn and highest first, two of the number's digits coming in with each: what a turn of the loop in `digits` does, and the room it has in 64 bits.
 -- Assumes nothing.
-use mathlib.Core.Path.{_≡_, refl, sym, ap, _∙_, subst}
-use mathlib.Core.Bool.{Bool, true, false, not, cond}
-use Prim.Native.Nat.{ℕ, zero, suc, _+_, _-_, _*_, _/_, _%_, _^_, _≤_, _<_}
-use native.Mathlib.Nat.{le-trans, le-of-eq, mul-one, one-mul, mul-le-mul-left, le-of-mul-le-mul-right, pow-suc, mod-lt, add-mul}
+use mathlib.Core.Path.{_≡_, sym, ap, _∙_, subst}
+use mathlib.Core.Logic.{_⊎_, inl, inr}
+use Prim.Native.Nat.{ℕ, suc, _+_, _-_, _*_, _/_, _%_, _^_, _≤_, _<_}
+use native.Mathlib.Nat.{le-trans, le-of-eq, mul-one, mul-le-mul-left, mul-le-mul-right, mul-assoc, pow-suc, sub-zero}
+use native.Mathlib.Numerals.{add-one}
 use native.Mathlib.Omega.{arith}
-use lib.Pow.{pow-pos, pow-mono}
-use lib.Dec.{T, leb, leb→le, le→leb, nleb→lt}
-use lib.Arith.{lt→nleb}
-use lib.Ieee.Bits.{is-true, is-false}
-use lib.Ieee.Digits.{back}
-use Rattle.root.specs.Whole.{IsRoot}
+use lib.Pow.{pow-pos}
+use Rattle.root.specs.Whole.{RootRest}
 
--- q is the root of the digits passed, and r what they are above q * q. A step takes the two digits at the top of s, a word of 64, and finds one digit more of the root:
--- 1 where 4 * q + 1, which is (2 * q + 1) * (2 * q + 1) - 4 * q * q, can be taken off. k steps are left.
-unfoldable pub digitsOf : ℕ → ℕ → ℕ → ℕ → ℕ
-digitsOf zero s r q = q
-digitsOf (suc k) s r q = cond (leb (4 * q + 1) (4 * r + s / 2 ^ 62)) (digitsOf k (s * 2 ^ 2 % 2 ^ 64) (4 * r + s / 2 ^ 62 - (4 * q + 1)) (2 * q + 1)) (digitsOf k (s * 2 ^ 2 % 2 ^ 64) (4 * r + s / 2 ^ 62) (2 * q))
+-- the number n with k pairs of binary digits after it, the first that a word s of 64 holds, and zeros where s has no more
+abbrev pub fed : ℕ → ℕ → ℕ → ℕ
+fed k s n = n * 4 ^ k + s * 4 ^ k / 2 ^ 64
 
--- the room that k steps more need: the root has at most 54 digits in the end
-pub record Room (k r q : ℕ) : Type 0 where
-  pub digits : suc q * 2 ^ k ≤ 2 ^ 54
-  pub rest : r ≤ 2 * q
+-- where the loop stands after j of k turns: the word, the digits found with room for the others, and what is left
+pub record After (k s n j s' q r : ℕ) : Type 0 where
+  pub word : s' ≡ s * 4 ^ j % 2 ^ 64
+  pub room : suc q * 2 ^ (k - j) ≤ 2 ^ 54
+  pub found : RootRest (fed j s n) q r
 
--- ---- one step
+pub before-turns : (k s q r : ℕ) → s < 2 ^ 64 → suc q * 2 ^ k ≤ 2 ^ 54 → r ≤ 2 * q → After k s (q * q + r) 0 s q r
+before-turns k s q r h room rest = record { word = omega arith; room = rw sub-zero room; found = record { value = omega arith; rest = rest } }
 
-digit-le : (s : ℕ) → s < 2 ^ 64 → s / 2 ^ 62 ≤ 3
-digit-le s h = omega arith
+pub root-lt : {k s n j s' q r : ℕ} → After k s n j s' q r → q < 2 ^ 54
+root-lt {k = k} {j = j} {q = q} A = le-trans (le-trans (le-of-eq (sym (mul-one (suc q)))) (mul-le-mul-left (suc q) (pow-pos (k - j)))) (A .room)
 
-zero-rest : (q t : ℕ) → t < 4 * q + 1 → t ≤ 2 * (2 * q)
-zero-rest q t h = omega arith
+-- ---- A turn: the next digit b is 1 where d can be taken off t. t is what is left with the next pair after it, and d is 4 * q + 1, which is (2 * q + 1) * (2 * q + 1) - 4 * q * q.
 
-one-rest : (q r d : ℕ) → r ≤ 2 * q → d ≤ 3 → 4 * r + d - (4 * q + 1) ≤ 2 * (2 * q + 1)
-one-rest q r d h k = omega arith
+abbrev pub Digit : ℕ → ℕ → ℕ → Type 0
+Digit t d b = ((t < d) × (b ≡ 0)) ⊎ ((d ≤ t) × (b ≡ 1))
 
--- what is left by a digit b
-pub taken : (d t b : ℕ) → b ≡ cond (leb d t) 1 0 → (b * d ≤ d) × (b * d ≤ t) × (t - b * d ≡ cond (leb d t) (t - d) t)
-taken d t b e = by (leb d t) (leb→le d t) e
+next-fed : (j s n : ℕ) → fed (j + 1) s n ≡ 4 * fed j s n + s * 4 ^ j % 2 ^ 64 / 2 ^ 62
+next-fed j s n = rw (add-one j, pow-suc 4 j) (at (n * 4 ^ j) (s * 4 ^ j) (sym (mul-assoc n (4 ^ j) 4)) (sym (mul-assoc s (4 ^ j) 4)))
   where
-    by : (c : Bool) → (T c → d ≤ t) → b ≡ cond c 1 0 → (b * d ≤ d) × (b * d ≤ t) × (t - b * d ≡ cond c (t - d) t)
-    by true f e = let l = f tt in rw e (omega arith, omega arith, ap (λ (x : ℕ). t - x) (one-mul d))
-    by false f e = rw e (omega arith, omega arith, omega arith)
+    at : {N S : ℕ} (x y : ℕ) → N ≡ x * 4 → S ≡ y * 4 → N + S / 2 ^ 64 ≡ 4 * (x + y / 2 ^ 64) + y % 2 ^ 64 / 2 ^ 62
+    at x y e f = omega arith
 
--- ---- The number whose root is found is what was passed, q * q + r, and then k pairs of digits, a number ρ that s holds at its top: ρ / 4 ^ k = s / 2 ^ 64.
-
-abbrev Finds : ℕ → Type 0
-Finds k = (s r q ρ : ℕ) → s < 2 ^ 64 → s * 4 ^ k ≡ ρ * 2 ^ 64 → r ≤ 2 * q → IsRoot ((q * q + r) * 4 ^ k + ρ) (digitsOf k s r q)
-
-top-digits : (s : ℕ) → s * 4 ≡ s / 2 ^ 62 * 2 ^ 64 + s * 2 ^ 2 % 2 ^ 64
-top-digits s = omega arith
-
--- ρ without its first pair d is what s' holds at its top
-rest-held : (F s p ρ d s' : ℕ) → 0 < F → s * 4 ≡ d * F + s' → s * (p * 4) ≡ ρ * F → (d * p ≤ ρ) × (s' * p ≡ (ρ - d * p) * F)
-rest-held F s p ρ d s' f a b =
-    let e : s * 4 * p ≡ (d * F + s') * p = ap (λ (x : ℕ). x * p) a in
-    let g : d * p * F ≤ ρ * F = omega arith in
-    let l : d * p ≤ ρ = le-of-mul-le-mul-right g f in
-    (l, off (d * p) (s' * p) l (omega arith))
+next-word : (j s : ℕ) → s * 4 ^ j % 2 ^ 64 * 2 ^ 2 % 2 ^ 64 ≡ s * 4 ^ (j + 1) % 2 ^ 64
+next-word j s = rw (add-one j, pow-suc 4 j) (at (s * 4 ^ j) (sym (mul-assoc s (4 ^ j) 4)))
   where
-    off : (y z : ℕ) → y ≤ ρ → z + y * F ≡ ρ * F → z ≡ (ρ - y) * F
-    off y z h k =
-        let m : (ρ - y + y) * F ≡ ρ * F = ap (λ (t : ℕ). t * F) (back ρ y h) in
-        let e : (ρ - y + y) * F ≡ (ρ - y) * F + y * F = add-mul (ρ - y) y F in
-        omega arith
+    at : {S : ℕ} (y : ℕ) → S ≡ y * 4 → y % 2 ^ 64 * 2 ^ 2 % 2 ^ 64 ≡ S % 2 ^ 64
+    at y e = omega arith
 
--- what was passed, and the pair d, is (2 * q) * (2 * q) + (4 * r + d)
-next-passed : (p q r d ρ : ℕ) → d * p ≤ ρ → (q * q + r) * (p * 4) + ρ ≡ (2 * q * (2 * q) + (4 * r + d)) * p + (ρ - d * p)
-next-passed p q r d ρ h = omega arith
-
-one-passed : (q t : ℕ) → 4 * q + 1 ≤ t → 2 * q * (2 * q) + t ≡ (2 * q + 1) * (2 * q + 1) + (t - (4 * q + 1))
-one-passed q t h = omega arith
-
--- by whether the digit is 1: t is 4 * r + d, ρ' what is left of ρ, and s' holds it
-step : (k : ℕ) → Finds k → (s' r q ρ' d n : ℕ) → s' < 2 ^ 64 → s' * 4 ^ k ≡ ρ' * 2 ^ 64 → r ≤ 2 * q → d ≤ 3 → n ≡ (2 * q * (2 * q) + (4 * r + d)) * 4 ^ k + ρ'
-    → (b : Bool) → (T b → 4 * q + 1 ≤ 4 * r + d) → (T (not b) → 4 * r + d < 4 * q + 1) → IsRoot n (cond b (digitsOf k s' (4 * r + d - (4 * q + 1)) (2 * q + 1)) (digitsOf k s' (4 * r + d) (2 * q)))
-step k ih s' r q ρ' d n S R l x N true y z =
-    subst (λ (v : ℕ). IsRoot v (digitsOf k s' (4 * r + d - (4 * q + 1)) (2 * q + 1))) (sym (N ∙ ap (λ (v : ℕ). v * 4 ^ k + ρ') (one-passed q (4 * r + d) (y tt))))
-    (ih s' (4 * r + d - (4 * q + 1)) (2 * q + 1) ρ' S R (one-rest q r d l x))
-step k ih s' r q ρ' d n S R l x N false y z = subst (λ (v : ℕ). IsRoot v (digitsOf k s' (4 * r + d) (2 * q))) (sym N) (ih s' (4 * r + d) (2 * q) ρ' S R (zero-rest q (4 * r + d) (z tt)))
-
-digits-find : (k : ℕ) → Finds k
-unfolding digitsOf
-digits-find zero s r q ρ h e l = subst (λ (x : ℕ). IsRoot ((q * q + r) * 1 + x) q) (sym (none s ρ h e)) (record { low = omega arith; high = omega arith })
+-- a digit more takes half of the room
+next-room : (k j q b : ℕ) → j < k → b ≤ 1 → suc q * 2 ^ (k - j) ≤ 2 ^ 54 → suc (2 * q + b) * 2 ^ (k - (j + 1)) ≤ 2 ^ 54
+next-room k j q b l h = at (2 ^ (k - (j + 1))) (ap (λ (x : ℕ). 2 ^ x) e ∙ pow-suc 2 (k - (j + 1)))
   where
-    none : (s ρ : ℕ) → s < 2 ^ 64 → s * 1 ≡ ρ * 2 ^ 64 → ρ ≡ 0
-    none s ρ h e = omega arith
-digits-find (suc k) s r q ρ h e l =
-    let d = s / 2 ^ 62 in
-    let s' = s * 2 ^ 2 % 2 ^ 64 in
-    let p = 4 ^ k in
-    let m = rest-held (2 ^ 64) s p ρ d s' (pow-pos 64) (top-digits s) (ap (λ (x : ℕ). s * x) (sym (pow-suc 4 k)) ∙ e) in
-    step k (digits-find k) s' r q (ρ - d * p) d ((q * q + r) * 4 ^ suc k + ρ) (mod-lt (s * 2 ^ 2) (pow-pos 64)) (m .1) l (digit-le s h)
-    (ap (λ (x : ℕ). (q * q + r) * x + ρ) (pow-suc 4 k) ∙ next-passed p q r d ρ (m .0))
-    (leb (4 * q + 1) (4 * r + d)) (leb→le (4 * q + 1) (4 * r + d)) (nleb→lt (4 * q + 1) (4 * r + d))
+    e : k - j ≡ suc (k - (j + 1))
+    e = omega arith
 
--- from nothing passed: 54 digits of the root of n, where s holds n's 108 digits at its top
-pub digits-root : (s n : ℕ) → s < 2 ^ 64 → s * 4 ^ 54 ≡ n * 2 ^ 64 → IsRoot n (digitsOf 54 s 0 0)
-digits-root s n h e = subst (λ (x : ℕ). IsRoot x (digitsOf 54 s 0 0)) (nothing n) (digits-find 54 s 0 0 n h e (omega arith))
-  where
-    nothing : (x : ℕ) → (0 * 0 + 0) * 4 ^ 54 + x ≡ x
-    nothing x = omega arith
+    at : {B : ℕ} (A : ℕ) → B ≡ A * 2 → suc q * B ≤ 2 ^ 54 → suc (2 * q + b) * A ≤ 2 ^ 54
+    at A e g = let f : suc (2 * q + b) * A ≤ suc q * 2 * A = mul-le-mul-right A (omega arith) in omega (arith, subst (λ (x : ℕ). suc q * x ≤ 2 ^ 54) e g)
 
--- ---- the steps of a program that tests k, and the room that they leave
+next-root : (n q r p b : ℕ) → RootRest n q r → p ≤ 3 → Digit (4 * r + p) (4 * q + 1) b → RootRest (4 * n + p) (2 * q + b) (4 * r + p - b * (4 * q + 1))
+next-root n q r p b R h (inl w) = rw (w .1) (record { value = omega (arith, R .value); rest = omega (arith, w .0) })
+next-root n q r p b R h (inr w) = rw (w .1) (record { value = omega (arith, R .value, w .0); rest = omega (arith, R .rest) })
 
-pub room-start : (k : ℕ) → k ≤ 54 → Room k 0 0
-room-start k h = record { digits = le-trans (le-of-eq (one-mul (2 ^ k))) (pow-mono h); rest = omega arith }
+pub digit-le : (t d b : ℕ) → Digit t d b → (b ≤ 1) × (b * d ≤ t)
+digit-le t d b (inl w) = rw (w .1) (omega arith, omega arith)
+digit-le t d b (inr w) = rw (w .1) (omega arith, omega (arith, w .0))
 
-pub room-now : (k r q : ℕ) → Room k r q → q < 2 ^ 54
-room-now k r q R = le-trans (le-trans (le-of-eq (sym (mul-one (suc q)))) (mul-le-mul-left (suc q) (pow-pos k))) (R .digits)
-
-pub digits-none : (s r q : ℕ) → digitsOf 0 s r q ≡ q
-unfolding digitsOf
-digits-none s r q = refl
-
-module _ (k s r q : ℕ) (more : k ≡ 0 → ⊥) where
-  after : suc (k - 1) ≡ k
-  after = omega arith
-
-  room-both : Room k r q → (suc (2 * q) * 2 ^ (k - 1) ≤ 2 ^ 54) × (suc (2 * q + 1) * 2 ^ (k - 1) ≤ 2 ^ 54)
-  room-both R = halved (2 ^ (k - 1)) (subst (λ (x : ℕ). suc q * x ≤ 2 ^ 54) (ap (λ (x : ℕ). 2 ^ x) (sym after) ∙ pow-suc 2 (k - 1)) (R .digits))
-    where
-      halved : (A : ℕ) → suc q * (A * 2) ≤ 2 ^ 54 → (suc (2 * q) * A ≤ 2 ^ 54) × (suc (2 * q + 1) * A ≤ 2 ^ 54)
-      halved A h = omega arith
-
-  -- what comes in, what can be taken off it, and whether it can
-  abbrev t : ℕ
-  t = 4 * r + s / 2 ^ 62
-
-  abbrev d : ℕ
-  d = 4 * q + 1
-
-  -- one step: the digit, and what is left
-  pub digit-next : digitsOf k s r q ≡ digitsOf (k - 1) (s * 2 ^ 2 % 2 ^ 64) (cond (leb d t) (t - d) t) (2 * q + cond (leb d t) 1 0)
-  unfolding digitsOf
-  digit-next = ap (λ (x : ℕ). digitsOf x s r q) (sym after) ∙ by (leb d t)
-    where
-      by : (b : Bool) → cond b (digitsOf (k - 1) (s * 2 ^ 2 % 2 ^ 64) (t - d) (2 * q + 1)) (digitsOf (k - 1) (s * 2 ^ 2 % 2 ^ 64) t (2 * q)) ≡ digitsOf (k - 1) (s * 2 ^ 2 % 2 ^ 64) (cond b (t - d) t) (2 * q + cond b 1 0)
-      by true = refl
-      by false = let e : 2 * q ≡ 2 * q + 0 = omega arith in ap (digitsOf (k - 1) (s * 2 ^ 2 % 2 ^ 64) t) e
-
-  pub room-next : s < 2 ^ 64 → Room k r q → Room (k - 1) (cond (leb d t) (t - d) t) (2 * q + cond (leb d t) 1 0)
-  room-next h R = by (leb d t) (nleb→lt d t)
-    where
-      by : (b : Bool) → (T (not b) → t < d) → Room (k - 1) (cond b (t - d) t) (2 * q + cond b 1 0)
-      by true f = record { digits = room-both R .1; rest = one-rest q r (s / 2 ^ 62) (R .rest) (digit-le s h) }
-      by false f = let e : 2 * q ≡ 2 * q + 0 = omega arith in subst (λ (x : ℕ). Room (k - 1) t x) e (record { digits = room-both R .0; rest = zero-rest q t (f tt) })
+pub turn : {k s n j s' q r b : ℕ} → After k s n j s' q r → j < k → Digit (4 * r + s' / 2 ^ 62) (4 * q + 1) b → After k s n (j + 1) (s' * 2 ^ 2 % 2 ^ 64) (2 * q + b) (4 * r + s' / 2 ^ 62 - b * (4 * q + 1))
+turn {k} {s} {n} {j} {s'} {q} {r} {b} A l D = record {
+  word = ap (λ (x : ℕ). x * 2 ^ 2 % 2 ^ 64) (A .word) ∙ next-word j s;
+  room = next-room k j q b l (digit-le (4 * r + s' / 2 ^ 62) (4 * q + 1) b D .0) (A .room);
+  found = subst (λ (x : ℕ). RootRest x (2 * q + b) (4 * r + s' / 2 ^ 62 - b * (4 * q + 1))) (ap (λ (x : ℕ). 4 * fed j s n + x / 2 ^ 62) (A .word) ∙ sym (next-fed j s n)) (next-root (fed j s n) q r (s' / 2 ^ 62) b (A .found) (omega (arith, A .word)) D);
+}

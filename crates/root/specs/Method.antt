@@ -1,28 +1,31 @@
--- What the function `from_parts` does: `digits` finds the 54 digits of the root of `scaled p c`, and the bit pattern made of them is that of `fromParts p c`. Assumes nothing.
-use mathlib.Core.Path.{_≡_, refl, sym, ap, ap₂, _∙_}
+-- What the function `from_parts` does: `digits` finds the 54 digits of the root of `scaled p c`, `nearest_half` the half of them, rounded, and the bit pattern made of that is `fromParts p c`'s. Assumes nothing.
+use mathlib.Core.Path.{_≡_, refl, sym, ap, ap₂, _∙_, subst}
 use mathlib.Core.Bool.{false}
 use mathlib.Core.Logic.{inl, inr}
 use Prim.Native.Nat.{ℕ, suc, _+_, _-_, _*_, _/_, _%_, _^_, _≤_, _<_}
-use native.Mathlib.Nat.{mul-assoc, mod-lt}
+use native.Mathlib.Nat.{mul-assoc}
 use native.Mathlib.Numerals.{add-one}
 use native.Mathlib.Omega.{arith}
+use lib.Dec.{ltb}
 use lib.Arith.{digits-div, digits-mod}
-use lib.Pow.{pow-pos, shl-exact}
+use lib.Pow.{shl-exact}
 use lib.Ieee.{binary64, odd, ofFields, ofBits}
 use Rattle.root.specs.Root.{halfUp}
-use Rattle.root.specs.Whole.{wholeRoot, only-root}
-use Rattle.root.specs.Digits.{digitsOf, digits-root}
-use Rattle.root.specs.Parts.{scaled, half, fromParts, parity, parts-root, half-digits}
+use Rattle.root.specs.Whole.{RootRest, wholeRoot, only-root, root-of-rest}
+use Rattle.root.specs.Digits.{fed}
+use Rattle.root.specs.NearestHalf.{nearestHalf, parity}
+use Rattle.root.specs.Parts.{scaled, half, fromParts, scaled-sized, parts-root, half-digits}
+use Rattle.root.specs.Rounding.{half-rounded}
 use Rattle.root.specs.Patterns.{of-fields, under-ones}
 
 -- ---- c at the top of a word, after 0 or 1 zeros, holds the digits of `scaled p c`
 
-word-digits : (p c : ℕ) → c < 2 ^ 53 → c * 2 ^ (11 - p % 2) % 2 ^ 64 * 4 ^ 54 ≡ scaled p c * 2 ^ 64
+word-digits : (p c : ℕ) → c < 2 ^ 53 → fed 54 (c * 2 ^ (11 - p % 2) % 2 ^ 64) 0 ≡ scaled p c
 unfolding scaled
 word-digits p c h = elim (parity p) [ inl e ↦ rw e (at 11 55 (omega arith) refl) | inr e ↦ rw e (at 10 54 (omega arith) refl) ]
   where
-    at : (a b : ℕ) → 53 + a ≤ 64 → 2 ^ a * 4 ^ 54 ≡ 2 ^ b * 2 ^ 64 → c * 2 ^ a % 2 ^ 64 * 4 ^ 54 ≡ c * 2 ^ b * 2 ^ 64
-    at a b l e = ap (λ (x : ℕ). x * 4 ^ 54) (shl-exact 53 a 64 h l) ∙ mul-assoc c (2 ^ a) (4 ^ 54) ∙ ap (λ (x : ℕ). c * x) e ∙ sym (mul-assoc c (2 ^ b) (2 ^ 64))
+    at : (a b : ℕ) → 53 + a ≤ 64 → 2 ^ a * 4 ^ 54 ≡ 2 ^ b * 2 ^ 64 → fed 54 (c * 2 ^ a % 2 ^ 64) 0 ≡ c * 2 ^ b
+    at a b l e = ap (λ (x : ℕ). 0 * 4 ^ 54 + x * 4 ^ 54 / 2 ^ 64) (shl-exact 53 a 64 h l) ∙ ap (λ (x : ℕ). 0 * 4 ^ 54 + x / 2 ^ 64) (mul-assoc c (2 ^ a) (4 ^ 54) ∙ ap (λ (x : ℕ). c * x) e ∙ sym (mul-assoc c (2 ^ b) (2 ^ 64))) ∙ omega arith
 
 -- ---- the pattern whose exponent's field is k, and whose significand q adds its leading digit to the field
 
@@ -41,22 +44,22 @@ module _ (k q : ℕ) (h : suc k < 2047) (low : 2 ^ 52 ≤ q) (high : q < 2 ^ 53)
       rest-lt : q - 2 ^ 52 < 2 ^ 52
       rest-lt = omega arith
 
--- ---- of a p and a c that the function is called with, and the result w of its call of `digits`
+-- ---- of a p and a c that the function is called with, and what `digits` and `nearest_half` answer
 
-module _ (p c : ℕ) (P : p ≤ 2098) (L : 2 ^ 52 ≤ c) (H : c < 2 ^ 53) (w : ℕ) (W : w ≡ digitsOf 54 (c * 2 ^ (11 - p % 2) % 2 ^ 64) 0 0) where
-  digits-found : w ≡ wholeRoot 54 (scaled p c)
-  digits-found =
-      let s = c * 2 ^ (11 - p % 2) % 2 ^ 64 in
-      W ∙ only-root (scaled p c) (digitsOf 54 s 0 0) (wholeRoot 54 (scaled p c)) (digits-root s (scaled p c) (mod-lt (c * 2 ^ (11 - p % 2)) (pow-pos 64)) (word-digits p c H)) (parts-root p c L H .is)
+module _ (p c : ℕ) (P : p ≤ 2098) (L : 2 ^ 52 ≤ c) (H : c < 2 ^ 53) (w r h : ℕ) (W : RootRest (fed 54 (c * 2 ^ (11 - p % 2) % 2 ^ 64) 0) w r) (Q : h ≡ nearestHalf w (ltb 0 r)) where
+  found : RootRest (scaled p c) w r
+  found = subst (λ (x : ℕ). RootRest x w r) (word-digits p c H) W
+
+  half-found : h ≡ half p c
+  unfolding half
+  half-found = Q ∙ half-rounded (scaled p c) w r (scaled-sized p c L H) found ∙ ap halfUp (only-root (scaled p c) w (wholeRoot 54 (scaled p c)) (root-of-rest (scaled p c) w r found) (parts-root p c L H .is))
 
   field-lt : suc (suc p / 2 + 484) < 2047
   field-lt = omega arith
 
-  -- the pattern that the function makes
-  same-pattern : ((p + 1) / 2 + 484) * 2 ^ 52 + (w + 1) / 2 ≡ (suc p / 2 + 484) * 2 ^ 52 + half p c
-  unfolding half halfUp
-  same-pattern = ap₂ (λ (x y : ℕ). (x / 2 + 484) * 2 ^ 52 + y / 2) (add-one p) (add-one w ∙ ap suc digits-found)
+  pub half-lt : h < 2 ^ 53
+  half-lt = subst (λ (x : ℕ). x < 2 ^ 53) (sym half-found) (half-digits p c L H .1)
 
-  pub pattern-of : ofBits binary64 (((p + 1) / 2 + 484) * 2 ^ 52 + (w + 1) / 2) ≡ fromParts p c
+  pub pattern-of : ofBits binary64 (((p + 1) / 2 + 484) * 2 ^ 52 + h) ≡ fromParts p c
   unfolding fromParts
-  pattern-of = let q = half-digits p c L H in ap (ofBits binary64) same-pattern ∙ pattern-value (suc p / 2 + 484) (half p c) field-lt (q .0) (q .1)
+  pattern-of = let q = half-digits p c L H in ap₂ (λ (x y : ℕ). ofBits binary64 ((x / 2 + 484) * 2 ^ 52 + y)) (add-one p) half-found ∙ pattern-value (suc p / 2 + 484) (half p c) field-lt (q .0) (q .1)

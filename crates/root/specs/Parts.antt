@@ -2,7 +2,7 @@
 -- Assumes nothing.
 use mathlib.Core.Path.{_≡_, refl, sym, ap, _∙_, subst}
 use mathlib.Core.Bool.{false}
-use mathlib.Core.Logic.{_⊎_, inl, inr}
+use mathlib.Core.Logic.{inl, inr}
 use Prim.Native.Nat.{ℕ, zero, suc, _+_, _-_, _*_, _/_, _%_, _^_, _≤_, _<_}
 use native.Mathlib.Nat.{le-antisymm, le-of-eq, le-of-suc-le-suc, lt-of-le-of-lt, lt-of-lt-of-le, lt-of-not-le, mul-le-mul-right, mul-lt-mul-of-pos-right, lt-of-mul-lt-mul-right, mul-assoc, mul-comm, mul-div-cancel, pow-suc}
 use native.Mathlib.Omega.{arith}
@@ -10,6 +10,7 @@ use lib.Pow.{pow-pos, pow-add, pow-mono}
 use lib.Ieee.{Float, size, odd}
 use lib.Ieee.Digits.{size-lt, size-le}
 use Rattle.root.specs.Root.{halfUp, rootOfUnits}
+use Rattle.root.specs.NearestHalf.{parity}
 use Rattle.root.specs.Whole.{IsRoot, wholeRoot, side-lt, whole-root}
 
 -- the number of 107 or 108 digits whose root has 54
@@ -82,14 +83,6 @@ root-parts n p c P =
 
 -- ---- how large it is
 
-pub parity : (p : ℕ) → (p % 2 ≡ 0) ⊎ (p % 2 ≡ 1)
-parity p = go (p % 2) (omega arith)
-  where
-    go : (b : ℕ) → b < 2 → (b ≡ 0) ⊎ (b ≡ 1)
-    go zero h = inl refl
-    go (suc zero) h = inr refl
-    go (suc (suc x)) h = absurd (omega arith)
-
 pub record Sized (N : ℕ) : Type 0 where
   pub low : 2 ^ 106 ≤ N
   pub high : N + 2 ^ 55 ≤ 2 ^ 108
@@ -138,11 +131,6 @@ half-low w h = omega arith
 pub half-high : (w : ℕ) → suc w < 2 ^ 54 → halfUp w < 2 ^ 53
 unfolding halfUp
 half-high w h = omega arith
-
--- w is twice the half, or it is odd and one less
-pub half-cases : (w : ℕ) → (w ≡ halfUp w + halfUp w) ⊎ ((suc w ≡ halfUp w + halfUp w) × (w % 2 ≡ 1))
-unfolding halfUp
-half-cases w = elim (parity w) [ inl e ↦ inl (omega arith) | inr e ↦ inr (omega arith) ]
 
 -- for the parts of any number
 module _ (p c : ℕ) (low : 2 ^ 52 ≤ c) (high : c < 2 ^ 53) where

@@ -1,106 +1,67 @@
 -- Why half of 54 digits, rounded up, is the nearest 53: the strict bounds behind `root-nearest` and `root-no-tie`.
--- The number N below is the square scaled up to 107 or 108 digits, and w its whole root, of 54. The result q is half of w, rounded up, times G = 2 ^ g. Assumes nothing.
-use mathlib.Core.Path.{_≡_, refl, sym, ap, _∙_, subst}
-use mathlib.Core.Bool.{false}
-use mathlib.Core.Logic.{_⊎_, inl, inr}
+-- The number N below is the square scaled up to 107 or 108 digits, and w its whole root, of 54. The result is half of w, rounded, times 2 ^ g, which is nearest by `NearestHalf.antt`. Assumes nothing.
+use mathlib.Core.Path.{_≡_, sym, ap, _∙_, subst}
+use mathlib.Core.Bool.{false, _||_}
+use mathlib.Core.Logic.{inl, inr}
 use Prim.Native.Nat.{ℕ, suc, _+_, _-_, _*_, _/_, _%_, _^_, _≤_, _<_}
-use native.Mathlib.Nat.{le-refl, le-trans, le-of-eq, le-of-lt, lt-of-le-of-lt, lt-of-lt-of-le, lt-of-not-le, not-le-of-lt, lt-irrefl, eq-zero-or-pos, add-mul, suc-mul, add-le-add, mul-le-mul, mul-le-mul-right, mul-lt-mul-of-pos-right, lt-of-mul-lt-mul-right, mul-assoc, mul-comm, mul-mul-mul-comm, mul-pos, zero-mul, two-pow-succ}
-use native.Mathlib.Decide.{decLe}
+use native.Mathlib.Nat.{le-trans, le-of-eq, le-of-lt, lt-of-lt-of-le, lt-irrefl, eq-zero-or-pos, mul-le-mul-right, mul-assoc, mul-comm, mul-pos, zero-mul, mul-div-cancel, mul-mod-left}
 use native.Mathlib.Omega.{arith}
 use lib.Arith.{lt-of-le-ne}
-use lib.Dec.{T}
+use lib.Dec.{T, ltb}
 use lib.Pow.{pow-pos, pow-add, pow-mono, shl-lt}
 use lib.Ieee.{Float, nan, inf, fin, binary64, size, fits}
-use lib.Ieee.Digits.{back, size-lt, size-le, size-reaches}
+use lib.Ieee.Digits.{size-lt, size-le, size-reaches}
 use lib.Ieee.Fits.{odd-fits}
 use lib.Ieee.Exact.{HasValue, odd-sign}
 use lib.Ieee.Positive.{positive, value-pos}
 use Rattle.root.specs.Units.{inUnits, Short, units-short, units-exact, units-of-value, units-below, positive-sign, value-sign}
-use Rattle.root.specs.Whole.{wholeRoot, square-lt}
+use Rattle.root.specs.Whole.{RootRest, wholeRoot, rest-of-root}
+use Rattle.root.specs.NearestHalf.{nearestHalf, Tie, parity, no-tie, none-left, nearest-above, nearest-below}
 use Rattle.root.specs.Root.{halfUp, rootOf, root-units}
 use Rattle.root.specs.Nearest.{Candidate, squareOfSum}
-use Rattle.root.specs.Parts.{Parts, Sized, Rooted, scaled, half, fromParts, root-parts, scaled-whole, scaled-sized, parts-root, half-digits, half-low, half-cases, four-pow, size-parts}
+use Rattle.root.specs.Parts.{Parts, Sized, scaled, half, fromParts, root-parts, scaled-whole, scaled-sized, parts-root, half-digits, four-pow, size-parts}
 
--- ---- over whole numbers: y is m * 2 ^ j, with no more digits than q
+-- ---- over whole numbers: N is even, so its root is no tie, and half of w is rounded up
 
-module _ (N w g m j : ℕ) (S : Sized N) (R : Rooted N w) (few : m < 2 ^ 53) where
-  -- either y is a multiple of G, or it is below all numbers of 53 digits times G
-  multiple-or-small : ((a : ℕ) × (m * 2 ^ j ≡ a * 2 ^ g)) ⊎ (m * 2 ^ j < 2 ^ 52 * 2 ^ g)
-  multiple-or-small = elim (decLe g j) [
-    | yes h ↦ inl (m * 2 ^ (j - g), ap (λ (x : ℕ). m * 2 ^ x) (sym (back j g h)) ∙ ap (λ (x : ℕ). m * x) (pow-add 2 (j - g) g) ∙ sym (mul-assoc m (2 ^ (j - g)) (2 ^ g)))
-    | no n ↦ inr (small (m * 2 ^ j) (2 ^ j) (2 ^ g) (mul-lt-mul-of-pos-right few (pow-pos j)) (le-trans (le-of-eq (sym (two-pow-succ j))) (pow-mono (lt-of-not-le n))))
-  ]
-    where
-      small : (y K G : ℕ) → y < 2 ^ 53 * K → K + K ≤ G → y < 2 ^ 52 * G
-      small y K G h k = omega arith
+even-root : (w : ℕ) → w * w % 2 ≡ 0 → w % 2 ≡ 0
+even-root w e = elim (parity w) [ inl f ↦ f | inr f ↦ absurd (odd-square (w / 2) (subst (λ (x : ℕ). x * x % 2 ≡ 0) (halves f) e)) ]
+  where
+    halves : w % 2 ≡ 1 → w ≡ 2 * (w / 2) + 1
+    halves f = omega arith
 
-  module _ (q : ℕ) (Q : q ≡ halfUp w) where
-    q-low : 2 ^ 52 ≤ q
-    q-low = subst (λ (x : ℕ). 2 ^ 52 ≤ x) (sym Q) (half-low w (R .low))
+    odd-square : (k : ℕ) → (2 * k + 1) * (2 * k + 1) % 2 ≡ 0 → ⊥
+    odd-square k z = let p : (2 * k + 1) * (2 * k + 1) ≡ 2 * (2 * (k * k) + 2 * k) + 1 = omega arith in omega arith
 
-    which : (w ≡ q + q) ⊎ ((suc w ≡ q + q) × (w % 2 ≡ 1))
-    which = rw Q (half-cases w)
+module _ (N w r : ℕ) (S : Sized N) (R : RootRest N w r) where
+  even-exact : N ≡ w * w → w % 2 ≡ 0
+  even-exact e = even-root w (rw (sym e) (S .even))
 
-    -- above q * G the next is (q + 1) * G
-    next-above : q * 2 ^ g < m * 2 ^ j → suc q * 2 ^ g ≤ m * 2 ^ j
-    next-above h = elim multiple-or-small [
-      | inl p ↦ subst (λ (x : ℕ). suc q * 2 ^ g ≤ x) (sym (p .1)) (mul-le-mul-right (2 ^ g) (lt-of-mul-lt-mul-right (2 ^ g) (subst (λ (x : ℕ). q * 2 ^ g < x) (p .1) h)))
-      | inr l ↦ absurd (not-le-of-lt (lt-of-lt-of-le l (mul-le-mul-right (2 ^ g) q-low)) (le-of-lt h))
-    ]
+  pub half-rounded : nearestHalf w (ltb 0 r) ≡ halfUp w
+  half-rounded = no-tie w (ltb 0 r) (λ e. even-exact (omega (arith, R .value, none-left 0 r e .1)))
 
-    -- below q * G the next is (q - 1) * G, unless q is the smallest of 53 digits
-    next-below : 2 ^ 52 < q → m * 2 ^ j < q * 2 ^ g → m * 2 ^ j + 2 ^ g ≤ q * 2 ^ g
-    next-below b h = elim multiple-or-small [
-      | inl p ↦ le-trans (le-of-eq (ap (λ (x : ℕ). x + 2 ^ g) (p .1) ∙ sym (suc-mul (p .0) (2 ^ g)))) (mul-le-mul-right (2 ^ g) (lt-of-mul-lt-mul-right (2 ^ g) (subst (λ (x : ℕ). x < q * 2 ^ g) (p .1) h)))
-      | inr l ↦ le-trans (small (m * 2 ^ j) (2 ^ g) l) (mul-le-mul-right (2 ^ g) b)
-    ]
-      where
-        small : (y G : ℕ) → y < 2 ^ 52 * G → y + G ≤ suc (2 ^ 52) * G
-        small y G h = omega arith
+  module _ (g : ℕ) (long : 2 ^ 53 ≤ w) where
+    abbrev n : ℕ
+    n = N * (2 ^ g * 2 ^ g)
 
-    square : (a G : ℕ) → a * G * (a * G) ≡ a * a * (G * G)
-    square a G = mul-mul-mul-comm a G a G
+    square-pos : 0 < 2 ^ g * 2 ^ g
+    square-pos = mul-pos (pow-pos g) (pow-pos g)
 
-    weight-pos : 0 < 2 ^ g * 2 ^ g
-    weight-pos = mul-pos (pow-pos g) (pow-pos g)
+    -- nothing is cut off below N
+    root-here : RootRest (n / (2 ^ g * 2 ^ g)) w r
+    root-here = rw (mul-div-cancel N square-pos) R
 
-    -- the sum of q * G and y is at least (w + 1) * G, whose square is above N * (G * G)
-    strict-above : q * 2 ^ g < m * 2 ^ j → N * (2 ^ g * 2 ^ g) < (q * 2 ^ g + m * 2 ^ j) * (q * 2 ^ g + m * 2 ^ j)
-    strict-above h =
-        let G = 2 ^ g in
-        let t : suc w ≤ q + suc q = elim which [ inl e ↦ omega arith | inr e ↦ omega arith ] in
-        let s : suc w * G ≤ q * G + m * 2 ^ j = le-trans (mul-le-mul-right G t) (le-trans (le-of-eq (add-mul q (suc q) G)) (add-le-add (le-refl (q * G)) (next-above h))) in
-        lt-of-lt-of-le (mul-lt-mul-of-pos-right (R .is .high) weight-pos) (le-trans (le-of-eq (sym (square (suc w) G))) (mul-le-mul s s))
+    half-here : nearestHalf w (ltb 0 (n % (2 ^ g * 2 ^ g)) || ltb 0 r) ≡ halfUp w
+    half-here = rw (mul-mod-left N (2 ^ g * 2 ^ g)) half-rounded
 
-    strict-below : m * 2 ^ j < q * 2 ^ g → (m * 2 ^ j + q * 2 ^ g) * (m * 2 ^ j + q * 2 ^ g) < N * (2 ^ g * 2 ^ g)
-    strict-below h = elim which [
-      | inl e ↦
-          -- the sum is below 2 * q * G, which is w * G
-          let G = 2 ^ g in
-          let s : m * 2 ^ j + q * G < w * G = subst (λ (x : ℕ). m * 2 ^ j + q * G < x * G) (sym e) (under (q * G) (m * 2 ^ j) ((q + q) * G) (add-mul q q G) h) in
-          lt-of-lt-of-le (square-lt (m * 2 ^ j + q * G) (w * G) s) (le-trans (le-of-eq (square w G)) (mul-le-mul-right (G * G) (R .is .low)))
-      | inr e ↦
-          -- the sum is at most (2 * q - 1) * G, which is w * G, and w * w is odd, and so not N
-          let G = 2 ^ g in
-          let b : 2 ^ 52 < q = more w q (R .low) (e .0) in
-          let s : m * 2 ^ j + q * G ≤ w * G = drop (q * G) (m * 2 ^ j) G (w * G) (suc-mul w G) (ap (λ (x : ℕ). x * G) (e .0) ∙ add-mul q q G) (next-below b h) in
-          lt-of-le-of-lt (mul-le-mul s s) (lt-of-le-of-lt (le-of-eq (square w G)) (mul-lt-mul-of-pos-right (lt-of-le-ne (R .is .low) (λ (z : w * w ≡ N). odd-square (w / 2) (subst (λ (x : ℕ). x * x % 2 ≡ 0) (halves (e .1)) (ap (λ (x : ℕ). x % 2) z ∙ S .even)))) weight-pos))
-    ]
-      where
-        under : (A y T : ℕ) → T ≡ A + A → y < A → y + A < T
-        under A y T e h = omega arith
+    tie-free : Tie n w r g root-here (λ _. long) → ⊥
+    tie-free T = omega (arith, T .odd, even-exact (sym (mul-div-cancel N square-pos) ∙ ap (λ (x : ℕ). x / (2 ^ g * 2 ^ g)) (T .exact) ∙ mul-div-cancel (w * w) square-pos))
 
-        more : (w q : ℕ) → 2 ^ 53 ≤ w → suc w ≡ q + q → 2 ^ 52 < q
-        more w q h e = omega arith
+    module _ (m j : ℕ) (few : m < 2 ^ 53) where
+      pub strict-above : halfUp w * 2 ^ g < m * 2 ^ j → n < (halfUp w * 2 ^ g + m * 2 ^ j) * (halfUp w * 2 ^ g + m * 2 ^ j)
+      strict-above l = rw (sym half-here) (let b = nearest-above n w r g root-here (λ _. long) m j few (rw (sym half-here) at l) in lt-of-le-ne (b .0) (λ e. tie-free (b .1 e)))
 
-        drop : (A y G W : ℕ) → suc w * G ≡ W + G → suc w * G ≡ A + A → y + G ≤ A → y + A ≤ W
-        drop A y G W e f h = omega arith
-
-        halves : w % 2 ≡ 1 → w ≡ 2 * (w / 2) + 1
-        halves e = omega arith
-
-        odd-square : (k : ℕ) → (2 * k + 1) * (2 * k + 1) % 2 ≡ 0 → ⊥
-        odd-square k z = let p : (2 * k + 1) * (2 * k + 1) ≡ 2 * (2 * (k * k) + 2 * k) + 1 = omega arith in omega arith
+      pub strict-below : m * 2 ^ j < halfUp w * 2 ^ g → (m * 2 ^ j + halfUp w * 2 ^ g) * (m * 2 ^ j + halfUp w * 2 ^ g) < n
+      strict-below l = rw (sym half-here) (let b = nearest-below n w r g root-here (λ _. long) m j few (rw (sym half-here) at l) in lt-of-le-ne (b .0) (λ e. tie-free (b .1 e)))
 
 -- ---- the parts of a number of units
 
@@ -197,8 +158,9 @@ module _ (x : Float) (held : T (fits binary64 x)) (above-zero : T (positive x)) 
         let s = rounded in
         let k = units-short y (C .held) (C .sign) in
         let N = scaled (s .p) (s .c) in
+        let R = parts-root (s .p) (s .c) (s .parts .low) (s .parts .high) in
         rw (square-of, root-in-units, k .is)
-        (strict-above N (wholeRoot 54 N) (suc (s .p) / 2 + 484) (k .m) (k .j) (scaled-sized (s .p) (s .c) (s .parts .low) (s .parts .high)) (parts-root (s .p) (s .c) (s .parts .low) (s .parts .high)) (k .few) (half (s .p) (s .c)) refl
+        (strict-above N (wholeRoot 54 N) (N - wholeRoot 54 N * wholeRoot 54 N) (scaled-sized (s .p) (s .c) (s .parts .low) (s .parts .high)) (rest-of-root N (wholeRoot 54 N) (R .is)) (suc (s .p) / 2 + 484) (R .low) (k .m) (k .j) (k .few)
         (rw (root-in-units, k .is) at h))
 
     pub root-strict-below : inUnits y < inUnits (rootOf x) → squareOfSum y (rootOf x) < 4 * (inUnits x * 2 ^ 1074)
@@ -207,6 +169,7 @@ module _ (x : Float) (held : T (fits binary64 x)) (above-zero : T (positive x)) 
         let s = rounded in
         let k = units-short y (C .held) (C .sign) in
         let N = scaled (s .p) (s .c) in
+        let R = parts-root (s .p) (s .c) (s .parts .low) (s .parts .high) in
         rw (square-of, root-in-units, k .is)
-        (strict-below N (wholeRoot 54 N) (suc (s .p) / 2 + 484) (k .m) (k .j) (scaled-sized (s .p) (s .c) (s .parts .low) (s .parts .high)) (parts-root (s .p) (s .c) (s .parts .low) (s .parts .high)) (k .few) (half (s .p) (s .c)) refl
+        (strict-below N (wholeRoot 54 N) (N - wholeRoot 54 N * wholeRoot 54 N) (scaled-sized (s .p) (s .c) (s .parts .low) (s .parts .high)) (rest-of-root N (wholeRoot 54 N) (R .is)) (suc (s .p) / 2 + 484) (R .low) (k .m) (k .j) (k .few)
         (rw (root-in-units, k .is) at h))

@@ -1,7 +1,7 @@
 -- Whole roots: the largest number whose square is at most n. Nothing here is about floats. Assumes nothing.
 use mathlib.Core.Path.{_≡_, subst}
 use mathlib.Core.Bool.{Bool, true, false, not, cond}
-use Prim.Native.Nat.{ℕ, zero, suc, _*_, _/_, _^_, _≤_, _<_, zero-le}
+use Prim.Native.Nat.{ℕ, zero, suc, _+_, _-_, _*_, _/_, _^_, _≤_, _<_, zero-le}
 use native.Mathlib.Nat.{le-antisymm, le-of-lt, le-of-suc-le-suc, lt-of-le-of-lt, lt-of-not-le, not-le-of-lt, mul-le-mul, mul-le-mul-left, mul-lt-mul-of-pos-right, pow-suc, div-lt-iff-lt-mul, zero-lt-suc}
 use native.Mathlib.Omega.{arith}
 use lib.Dec.{T, leb, leb→le, nleb→lt}
@@ -15,6 +15,17 @@ wholeRoot (suc k) n = let w = 2 * wholeRoot k (n / 4) in cond (leb (suc w * suc 
 pub record IsRoot (n w : ℕ) : Type 0 where
   pub low : w * w ≤ n
   pub high : n < suc w * suc w
+
+-- and r is what n is above its square
+pub record RootRest (n w r : ℕ) : Type 0 where
+  pub value : w * w + r ≡ n
+  pub rest : r ≤ 2 * w
+
+pub root-of-rest : (n w r : ℕ) → RootRest n w r → IsRoot n w
+root-of-rest n w r R = record { low = omega (arith, R .value); high = omega (arith, R .value, R .rest) }
+
+pub rest-of-root : (n w : ℕ) → IsRoot n w → RootRest n w (n - w * w)
+rest-of-root n w R = record { value = omega (arith, R .low); rest = omega (arith, R .high) }
 
 -- squares are in the order of their sides
 pub side-lt : (a b : ℕ) → a * a < b * b → a < b

@@ -3,45 +3,54 @@
 use complex::Complex;
 use complex::norm_sqr;
 ghost use mathlib.Core.Path.{_≡_};
-ghost use mathlib.Core.Bool.{cond};
-ghost use Prim.Native.Nat.{_-_, _^_, _≤_, _<_};
-ghost use lib.Dec.{leb};
+ghost use mathlib.Core.Bool.{_||_};
+ghost use Prim.Native.Nat.{suc, _+_, _*_, _^_, _≤_, _<_};
+ghost use lib.Dec.{ltb};
 ghost use lib.Ieee.{binary64, ofBits};
 ghost use Rattle.root.specs.Root.{rootOf};
 ghost use Rattle.root.specs.Norm.{normOf};
-ghost use Rattle.root.specs.Digits.{Room, digitsOf};
+ghost use Rattle.root.specs.Whole.{RootRest};
+ghost use Rattle.root.specs.Digits.{fed};
+ghost use Rattle.root.specs.NearestHalf.{nearestHalf};
 ghost use Rattle.root.specs.Parts.{fromParts};
 
-// The next digit of the root: 1 where d can be taken off t. It is a number and not a branch, since nothing foretells it.
-fn digit(t: u64, d: u64) -> u64
-    ensures { λ b. ⌜ b ≡ cond (leb d t) 1 0 ⌝ }
-    ensures { λ b. ⌜ b ≤ 1 ⌝ }
-{
-    if t < d { 0 } else { 1 }
+// The digits found of a root, and what the number's digits so far are above their square.
+struct Found {
+    root: u64,
+    rest: u64,
 }
 
-// What is left of t where the digit is b.
-fn left(t: u64, d: u64, b: u64) -> u64
-    requires { ⌜ b ≡ cond (leb d t) 1 0 ⌝ }
-    ensures { λ r. ⌜ r ≡ cond (leb d t) (t - d) t ⌝ }
+// k digits more of a root, one a turn and highest first: q holds those found, r what the number's digits so far are above
+// q * q, and s the number's next digits, at its top. A digit is a number and not a branch, since nothing foretells it.
+fn digits(k: u64, mut s: u64, mut q: u64, mut r: u64) -> Found
+    requires { ⌜ suc q * 2 ^ k ≤ 2 ^ 54 ⌝ }
+    requires { ⌜ r ≤ 2 * q ⌝ }
+    ensures { λ w. ⌜ RootRest (fed k s (q * q + r)) (w .root) (w .rest) ⌝ }
+    ensures { λ w. ⌜ w .root < 2 ^ 54 ⌝ }
 {
-    t - b * d
-}
-
-// The root's digits, one a call: q holds those found, r what the number's digits so far are above
-// q * q, and s the number's next digits, at its top. k digits are still to be found.
-fn digits(k: u64, s: u64, r: u64, q: u64) -> u64
-    requires { ⌜ Room k r q ⌝ }
-    ensures { λ w. ⌜ w ≡ digitsOf k s r q ⌝ }
-    ensures { λ w. ⌜ w < 2 ^ 54 ⌝ }
-{
-    if k == 0 {
-        return q;
+    for _ in 0..k {
+        let t = 4 * r + (s >> 62);
+        let d = 4 * q + 1;
+        let b: u64 = if t < d { 0 } else { 1 };
+        s = s << 2;
+        q = 2 * q + b;
+        r = t - b * d;
     }
-    let t = 4 * r + (s >> 62);
-    let d = 4 * q + 1;
-    let b = digit(t, d);
-    digits(k - 1, s << 2, left(t, d, b), 2 * q + b)
+    Found { root: q, rest: r }
+}
+
+// Half of the digits found, rounded to the nearest, ties to even. A half is no tie where anything is left below it: a
+// rest, or what was cut off the number's end.
+fn nearest_half(found: Found, cut: bool) -> u64
+    requires { ⌜ found .root < 2 ^ 54 ⌝ }
+    ensures { λ h. ⌜ h ≡ nearestHalf (found .root) (cut || ltb 0 (found .rest)) ⌝ }
+{
+    let w = found.root;
+    if cut || found.rest > 0 {
+        (w + 1) / 2
+    } else {
+        (w + w / 2 % 2) / 2
+    }
 }
 
 // The root of the number whose first 53 binary digits are c, and whose length is p, in units of
@@ -52,8 +61,8 @@ fn from_parts(p: u64, c: u64) -> f64
     requires { ⌜ c < 2 ^ 53 ⌝ }
     ensures { λ r. ⌜ r ≡ fromParts p c ⌝ }
 {
-    let w = digits(54, c << (11 - p % 2), 0, 0);
-    f64::from_bits(((p + 1) / 2 + 484) * 0x10_0000_0000_0000 + (w + 1) / 2)
+    let found = digits(54, c << (11 - p % 2), 0, 0);
+    f64::from_bits(((p + 1) / 2 + 484) * 0x10_0000_0000_0000 + nearest_half(found, false))
 }
 
 // The root of a finite value above zero, by its bit pattern.
