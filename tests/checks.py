@@ -137,6 +137,36 @@ def function(crate, name):
     return m.group(0) if m else ""
 
 
+def bodies(crate):
+    """The functions of a crate, each with its text from the brace that begins it on."""
+    out = {}
+    for path in sorted((CRATES / crate / "src").glob("**/*.rt")):
+        code = re.sub(r"//.*", "", path.read_text())
+        out |= dict(re.findall(r"^(?:pub )?(?:extern \"C\" )?fn (\w+).*?(?:^\{| \{)$(.*?)^\}$", code, re.M | re.S))
+    return out
+
+
+def nothing_calls_itself(crates):
+    """Neither directly nor through others: within a crate, since crates stand one on another."""
+    out = []
+    for crate in crates:
+        texts = bodies(crate)
+        calls = {f: {g for g in texts if re.search(rf"(?<![\w.:]){g}\(", text)} for f, text in texts.items()}
+        for f in calls:
+            reached, todo = set(), {f}
+            while todo:
+                todo = set().union(*(calls[g] for g in todo)) - reached
+                reached |= todo
+            out += [f"{crate}::{f} calls itself"] if f in reached else []
+    return out
+
+
+def loops_of_the_root_call_nothing():
+    """So the number of calls that a root makes is a constant."""
+    loops = [(f, m.group(0)) for f, text in bodies("root").items() for m in re.finditer(r"^( *)(?:for|while|loop)\b.*?^\1\}$", text, re.M | re.S)]
+    return [f"a loop of root::{f} calls {call}" for f, loop in loops for call in re.findall(r"\w+(?=\()", loop)] + ([] if loops else ["root has no loop"])
+
+
 # The forms that document 01 requires: crate, function, what its text has to hold. docs/DECISIONS.md has the same table.
 LENT_TO_WRITE = r"&mut store\[\w+\.\.\w+\]"
 LENT_TO_READ = r"&store\[\w+\.\.\w+\]"
@@ -234,6 +264,8 @@ check("promises are proved and named", promises_are_proved_and_named())
 check("README maps every crate", readme_maps_every_crate(crates))
 check("chain offers the calls alone", chain_offers_the_calls_alone())
 check("the required forms are there", required_forms_are_there())
+check("no function calls itself", nothing_calls_itself(crates))
+check("the root's loops call nothing", loops_of_the_root_call_nothing())
 check("kernels take slices and numbers", no_kernel_takes_the_record())
 check("docs/REFUSALS.md shows what its program prints", refusals_page_shows_what_runs())
 check("docs/CALLS.md shows what its program does", calls_page_shows_what_runs())
