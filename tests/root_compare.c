@@ -94,13 +94,13 @@ int main(int argc, char **argv) {
 
     /* exact squares, small and random ones of up to 26 digits, exponents of both parities, and two units either way */
     for (uint64_t k = 1; k <= 2000; k++) around(pattern((double)(k * k)), 2);
-    for (unsigned n = 0; n < 50000; n++) {
+    for (uint64_t n = 0; n < limit / 40; n++) {
         uint64_t k = (next() >> 38) | 1;
         around(pattern(ldexp((double)(k * k), (int)(next() % 1800) - 950)), 2);
     }
 
     /* squares of midpoints, where the rounding is hardest: (q + 1/2)^2 for q of 53 digits, and two units either way */
-    for (unsigned n = 0; n < 50000; n++) {
+    for (uint64_t n = 0; n < limit / 40; n++) {
         unsigned __int128 m = 2 * ((unsigned __int128)((next() & DIGITS) | (DIGITS + 1))) + 1, s = m * m;
         unsigned down = (s >> 107) ? 55 : 54;
         around(pattern(ldexp((double)(uint64_t)(s >> down), (int)(next() % 1800) - 950)), 2);
