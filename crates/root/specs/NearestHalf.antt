@@ -59,7 +59,13 @@ halved w false = elim (parity w) [
 ]
 
 -- ---- Why it is nearest. n is four times a square, so that half of n's root is the square's. G = 2 ^ g is the weight of the last digit that is kept, w the whole root of n / (G * G), and r what is left; n % (G * G) is cut off below.
--- Half of w, rounded, is h, which has 53 digits or G is 1. No number y = m * 2 ^ j with an m of at most 53 digits is nearer to half of n's root than h * G is; where one is as near, n's root is w * G with an odd w, and h is even.
+-- Half of w, rounded, is h, which has 53 digits at least, unless G is 1. No number y = m * 2 ^ j with an m of at most 53 digits is nearer to half of n's root than h * G is; where one is as near, n's root is w * G with an odd w, and h is even.
+
+-- half of n's root is the midpoint of two multiples of G, and h the even one
+pub record Tie (n w h G : ℕ) : Type 0 where
+  pub exact : n ≡ w * w * (G * G)
+  pub odd : w % 2 ≡ 1
+  pub even : h % 2 ≡ 0
 
 pub none-left : (a b : ℕ) → (ltb 0 a || ltb 0 b) ≡ false → (a ≡ 0) × (b ≡ 0)
 none-left zero zero e = (refl, refl)
@@ -78,12 +84,6 @@ module _ (n w r g : ℕ) (R : RootRest (n / (2 ^ g * 2 ^ g)) w r) (long : 0 < g 
 
   abbrev h : ℕ
   h = nearestHalf w more
-
-  -- half of n's root is a midpoint of two multiples of G, and h the even one
-  pub record Tie : Type 0 where
-    pub exact : n ≡ w * w * (G * G)
-    pub odd : w % 2 ≡ 1
-    pub even : h % 2 ≡ 0
 
   square-pos : 0 < G * G
   square-pos = mul-pos (pow-pos g) (pow-pos g)
@@ -142,7 +142,7 @@ module _ (n w r g : ℕ) (R : RootRest (n / (2 ^ g * 2 ^ g)) w r) (long : 0 < g 
         small y G h = omega arith
 
     abbrev Beside : ℕ → ℕ → Type 0
-    Beside a b = (a ≤ b) × (a ≡ b → Tie)
+    Beside a b = (a ≤ b) × (a ≡ b → Tie n w h G)
 
     square : (a : ℕ) → a * G * (a * G) ≡ a * a * (G * G)
     square a = mul-mul-mul-comm a G a G

@@ -53,15 +53,15 @@ module _ (N w r : ℕ) (S : Sized N) (R : RootRest N w r) where
     half-here : nearestHalf w (ltb 0 (n % (2 ^ g * 2 ^ g)) || ltb 0 r) ≡ halfUp w
     half-here = rw (mul-mod-left N (2 ^ g * 2 ^ g)) half-rounded
 
-    tie-free : Tie n w r g root-here (λ _. long) → ⊥
-    tie-free T = omega (arith, T .odd, even-exact (sym (mul-div-cancel N square-pos) ∙ ap (λ (x : ℕ). x / (2 ^ g * 2 ^ g)) (T .exact) ∙ mul-div-cancel (w * w) square-pos))
+    strict : {a b h : ℕ} → (a ≤ b) × (a ≡ b → Tie n w h (2 ^ g)) → a < b
+    strict p = lt-of-le-ne (p .0) (λ e. tie-free (p .1 e))
+      where
+        tie-free : {h : ℕ} → Tie n w h (2 ^ g) → ⊥
+        tie-free T = omega (arith, T .odd, even-exact (sym (mul-div-cancel N square-pos) ∙ ap (λ (x : ℕ). x / (2 ^ g * 2 ^ g)) (T .exact) ∙ mul-div-cancel (w * w) square-pos))
 
-    module _ (m j : ℕ) (few : m < 2 ^ 53) where
-      pub strict-above : halfUp w * 2 ^ g < m * 2 ^ j → n < (halfUp w * 2 ^ g + m * 2 ^ j) * (halfUp w * 2 ^ g + m * 2 ^ j)
-      strict-above l = rw (sym half-here) (let b = nearest-above n w r g root-here (λ _. long) m j few (rw (sym half-here) at l) in lt-of-le-ne (b .0) (λ e. tie-free (b .1 e)))
-
-      pub strict-below : m * 2 ^ j < halfUp w * 2 ^ g → (m * 2 ^ j + halfUp w * 2 ^ g) * (m * 2 ^ j + halfUp w * 2 ^ g) < n
-      strict-below l = rw (sym half-here) (let b = nearest-below n w r g root-here (λ _. long) m j few (rw (sym half-here) at l) in lt-of-le-ne (b .0) (λ e. tie-free (b .1 e)))
+    -- half of the root of n is nearer to z, the rounded half of w, than to any other y of 53 digits
+    strict-sides : (m j : ℕ) → m < 2 ^ 53 → let y = m * 2 ^ j in let z = halfUp w * 2 ^ g in (z < y → n < (z + y) * (z + y)) × (y < z → (y + z) * (y + z) < n)
+    strict-sides m j few = rw (sym half-here) (λ l. strict (nearest-above n w r g root-here (λ _. long) m j few l), λ l. strict (nearest-below n w r g root-here (λ _. long) m j few l))
 
 -- ---- the parts of a number of units
 
@@ -152,24 +152,18 @@ module _ (x : Float) (held : T (fits binary64 x)) (above-zero : T (positive x)) 
   square-of = let s = rounded in square-scaled (inUnits x) (scaled (s .p) (s .c)) (suc (s .p) / 2) (scaled-whole (inUnits x) (s .p) (s .c) (s .parts))
 
   module _ (y : Float) (C : Candidate y) where
-    pub root-strict-above : inUnits (rootOf x) < inUnits y → 4 * (inUnits x * 2 ^ 1074) < squareOfSum (rootOf x) y
+    sides : (inUnits (rootOf x) < inUnits y → 4 * (inUnits x * 2 ^ 1074) < squareOfSum (rootOf x) y) × (inUnits y < inUnits (rootOf x) → squareOfSum y (rootOf x) < 4 * (inUnits x * 2 ^ 1074))
     unfolding half
-    root-strict-above h =
+    sides =
         let s = rounded in
         let k = units-short y (C .held) (C .sign) in
         let N = scaled (s .p) (s .c) in
+        let w = wholeRoot 54 N in
         let R = parts-root (s .p) (s .c) (s .parts .low) (s .parts .high) in
-        rw (square-of, root-in-units, k .is)
-        (strict-above N (wholeRoot 54 N) (N - wholeRoot 54 N * wholeRoot 54 N) (scaled-sized (s .p) (s .c) (s .parts .low) (s .parts .high)) (rest-of-root N (wholeRoot 54 N) (R .is)) (suc (s .p) / 2 + 484) (R .low) (k .m) (k .j) (k .few)
-        (rw (root-in-units, k .is) at h))
+        rw (square-of, root-in-units, k .is) (strict-sides N w (N - w * w) (scaled-sized (s .p) (s .c) (s .parts .low) (s .parts .high)) (rest-of-root N w (R .is)) (suc (s .p) / 2 + 484) (R .low) (k .m) (k .j) (k .few))
+
+    pub root-strict-above : inUnits (rootOf x) < inUnits y → 4 * (inUnits x * 2 ^ 1074) < squareOfSum (rootOf x) y
+    root-strict-above = sides .0
 
     pub root-strict-below : inUnits y < inUnits (rootOf x) → squareOfSum y (rootOf x) < 4 * (inUnits x * 2 ^ 1074)
-    unfolding half
-    root-strict-below h =
-        let s = rounded in
-        let k = units-short y (C .held) (C .sign) in
-        let N = scaled (s .p) (s .c) in
-        let R = parts-root (s .p) (s .c) (s .parts .low) (s .parts .high) in
-        rw (square-of, root-in-units, k .is)
-        (strict-below N (wholeRoot 54 N) (N - wholeRoot 54 N * wholeRoot 54 N) (scaled-sized (s .p) (s .c) (s .parts .low) (s .parts .high)) (rest-of-root N (wholeRoot 54 N) (R .is)) (suc (s .p) / 2 + 484) (R .low) (k .m) (k .j) (k .few)
-        (rw (root-in-units, k .is) at h))
+    root-strict-below = sides .1
