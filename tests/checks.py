@@ -131,18 +131,13 @@ def chain_offers_the_calls_alone():
     return [f"chain has the public {n}" for n in sorted(public - CALLS)] + [f"chain has no {n}" for n in sorted(CALLS - public)]
 
 
-def function(crate, name):
-    """The text of a function, from its name to the line that closes it."""
-    m = re.search(rf"^(?:pub )?fn {name}\b.*?^}}$", (CRATES / crate / "src/lib.rt").read_text(), re.M | re.S)
-    return m.group(0) if m else ""
-
-
-def bodies(crate):
-    """The functions of a crate, each with its text from the brace that begins it on."""
+def functions(crate):
+    """The functions of a crate by name, each as its head and, from the brace that ends the head on, its body. No comments."""
     out = {}
     for path in sorted((CRATES / crate / "src").glob("**/*.rt")):
         code = re.sub(r"//.*", "", path.read_text())
-        out |= dict(re.findall(r"^(?:pub )?(?:extern \"C\" )?fn (\w+).*?(?:^\{| \{)$(.*?)^\}$", code, re.M | re.S))
+        for m in re.finditer(r"^((?:pub )?(?:extern \"C\" )?fn (\w+).*?)((?:^\{| \{)$.*?^\}$)", code, re.M | re.S):
+            out[m[2]] = m[1], m[3]
     return out
 
 
@@ -150,8 +145,8 @@ def nothing_calls_itself(crates):
     """Neither directly nor through others: within a crate, since crates stand one on another."""
     out = []
     for crate in crates:
-        texts = bodies(crate)
-        calls = {f: {g for g in texts if re.search(rf"(?<![\w.:]){g}\(", text)} for f, text in texts.items()}
+        texts = functions(crate)
+        calls = {f: {g for g in texts if re.search(rf"(?<![\w.:]){g}\(", body)} for f, (_, body) in texts.items()}
         for f in calls:
             reached, todo = set(), {f}
             while todo:
@@ -163,8 +158,9 @@ def nothing_calls_itself(crates):
 
 def loops_of_the_root_call_nothing():
     """So the number of calls that a root makes is a constant."""
-    loops = [(f, m.group(0)) for f, text in bodies("root").items() for m in re.finditer(r"^( *)(?:for|while|loop)\b.*?^\1\}$", text, re.M | re.S)]
-    return [f"a loop of root::{f} calls {call}" for f, loop in loops for call in re.findall(r"\w+(?=\()", loop)] + ([] if loops else ["root has no loop"])
+    loop = r"^( +)(?:for|while|\S.*\bloop|loop)\b.*?^\1\}"
+    loops = [(f, m.group(0)) for f, (_, body) in functions("root").items() for m in re.finditer(loop, body, re.M | re.S)]
+    return [f"a loop of root::{f} calls {g}" for f, text in loops for g in re.findall(r"\w+(?=\()", text)] + ([] if loops else ["root has no loop"])
 
 
 # The forms that document 01 requires: crate, function, what its text has to hold. docs/DECISIONS.md has the same table.
@@ -200,7 +196,7 @@ LAWS = [("root/specs/Theorems.antt", "root-nearest"), ("root/specs/Root.antt", "
 
 def required_forms_are_there():
     pages = (TOP / "docs/DECISIONS.md").read_text()
-    out = [f"{c}::{f} has not its form" for c, f, form in FORMS if not re.search(form, function(c, f), re.S)]
+    out = [f"{c}::{f} has not its form" for c, f, form in FORMS if not re.search(form, "".join(functions(c).get(f, ())), re.S)]
     out += [f"docs/DECISIONS.md does not name {f} of {c}" for c, f, _ in FORMS if f"`crates/{c}/src/lib.rt`" not in pages or f"`{f}`" not in pages]
     out += [f"{c} has no {form}" for c, form in TYPES if not re.search(form, (CRATES / c / "src/lib.rt").read_text())]
     out += [f"{path} has no {law}" for path, law in LAWS if not re.search(rf"^pub {law} :", (CRATES / path).read_text(), re.M)]

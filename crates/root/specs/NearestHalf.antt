@@ -2,15 +2,15 @@
 use mathlib.Core.Path.{_≡_, refl, sym, ap, _∙_, subst}
 use mathlib.Core.Bool.{Bool, true, false, cond, _||_, true≢false}
 use mathlib.Core.Logic.{_⊎_, inl, inr}
-use Prim.Native.Nat.{ℕ, zero, suc, _+_, _-_, _*_, _/_, _%_, _^_, _≤_, _<_, zero-le, Ordering, Ordering·lt, Ordering·eq, Ordering·gt}
-use native.Mathlib.Nat.{le-refl, le-trans, le-antisymm, le-of-eq, le-of-lt, lt-of-le-of-lt, lt-of-lt-of-le, lt-of-not-le, not-le-of-lt, add-mul, suc-mul, add-le-add, mul-le-mul, mul-le-mul-right, mul-lt-mul-of-pos-right, lt-of-mul-lt-mul-right, mul-assoc, mul-mul-mul-comm, mul-pos, two-pow-succ, div-add-mod', mod-lt, mul-mod-left, mul-div-cancel, lt-irrefl}
+use Prim.Native.Nat.{ℕ, zero, suc, _+_, _-_, _*_, _/_, _%_, _^_, _≤_, _<_, zero-le, Ordering·lt, Ordering·eq, Ordering·gt}
+use native.Mathlib.Nat.{le-refl, le-trans, le-antisymm, le-of-eq, le-of-lt, lt-of-le-of-lt, lt-of-lt-of-le, lt-of-not-le, not-le-of-lt, add-mul, suc-mul, add-le-add, mul-le-mul, mul-le-mul-right, mul-lt-mul-of-pos-right, lt-of-mul-lt-mul-right, mul-assoc, mul-mul-mul-comm, mul-pos, two-pow-succ, div-add-mod', mod-lt, mul-mod-left, mul-div-cancel}
 use native.Mathlib.Decide.{decLe}
 use native.Mathlib.Omega.{arith}
 use lib.Dec.{eqb, ltb, leb·zero, leb·suc-suc}
 use lib.Pow.{pow-pos, pow-add, pow-mono}
 use lib.Ieee.{nearest}
 use lib.Ieee.Digits.{back}
-use Rattle.root.specs.Whole.{RootRest, square-lt}
+use Rattle.root.specs.Whole.{RootRest, strictly, square-lt}
 use Rattle.root.specs.Root.{halfUp}
 
 -- Half of w, by the rule of IEEE 754-2019, 4.3.1 (`nearest`): w / 2 is below the midpoint of two numbers where w is even; where w is odd it is at it, or above it if there is more than w.
@@ -146,9 +146,6 @@ module _ (n w r g : ℕ) (R : RootRest (n / (2 ^ g * 2 ^ g)) w r) (long : 0 < g 
 
     square : (a : ℕ) → a * G * (a * G) ≡ a * a * (G * G)
     square a = mul-mul-mul-comm a G a G
-
-    strictly : (a b : ℕ) → a < b → Beside a b
-    strictly a b l = (le-of-lt l, λ e. absurd (lt-irrefl a (subst (λ (x : ℕ). a < x) (sym e) l)))
 
     pub nearest-above : h * G < y → Beside n ((h * G + y) * (h * G + y))
     nearest-above l = elim (halved w more) [

@@ -2,19 +2,19 @@
 -- Assumes nothing.
 use mathlib.Core.Path.{_≡_, refl, sym, ap, _∙_, subst}
 use Prim.Native.Nat.{ℕ, suc, _+_, _-_, _*_, _%_, _^_, _≤_, _<_}
-use native.Mathlib.Nat.{le-refl, le-trans, le-antisymm, le-of-eq, le-of-suc-le-suc, le-of-lt, lt-of-le-of-lt, lt-of-lt-of-le, lt-of-not-le, lt-irrefl, not-le-of-lt, mul-le-mul, mul-le-mul-left, le-of-mul-le-mul-left, add-le-add, suc-inj}
+use native.Mathlib.Nat.{le-refl, le-trans, le-antisymm, le-of-eq, le-of-suc-le-suc, le-of-lt, lt-of-le-of-lt, lt-of-lt-of-le, lt-of-not-le, not-le-of-lt, mul-le-mul, mul-le-mul-left, le-of-mul-le-mul-left, add-le-add, suc-inj}
 use mathlib.Core.Bool.{false}
 use native.Mathlib.Omega.{arith}
 use lib.Dec.{lit≤, lit<}
 use lib.Ieee.{Float, inf, binary64, toBits, ofBits}
 use lib.Ieee.Fits.{inf-fits}
 use Rattle.root.specs.Units.{inUnits, same-units, same-bits, bits-lt, units-lt, units-top, at-pattern}
-use Rattle.root.specs.Whole.{square-lt}
+use Rattle.root.specs.Whole.{strictly, square-lt}
 use Rattle.root.specs.Nearest.{Candidate, Even, Nearest, squareOfSum}
 
 -- a midpoint that is not reached is no tie
 pub strict : (r : Float) (a b : ℕ) → a < b → (a ≤ b) × (a ≡ b → Even r)
-strict r a b h = (le-of-lt h, λ e. absurd (lt-irrefl b (subst (λ (x : ℕ). x < b) e h)))
+strict r a b h = strictly a b h
 
 -- of two candidates that differ, one is smaller
 pub neither : (r s : Float) → Candidate r → Candidate s → (inUnits r < inUnits s → ⊥) → (inUnits s < inUnits r → ⊥) → r ≡ s

@@ -53,15 +53,15 @@ module _ (N w r : ℕ) (S : Sized N) (R : RootRest N w r) where
     half-here : nearestHalf w (ltb 0 (n % (2 ^ g * 2 ^ g)) || ltb 0 r) ≡ halfUp w
     half-here = rw (mul-mod-left N (2 ^ g * 2 ^ g)) half-rounded
 
-    strict : {a b h : ℕ} → (a ≤ b) × (a ≡ b → Tie n w h (2 ^ g)) → a < b
-    strict p = lt-of-le-ne (p .0) (λ e. tie-free (p .1 e))
+    strict-here : {a b h : ℕ} → (a ≤ b) × (a ≡ b → Tie n w h (2 ^ g)) → a < b
+    strict-here p = lt-of-le-ne (p .0) (λ e. tie-free (p .1 e))
       where
         tie-free : {h : ℕ} → Tie n w h (2 ^ g) → ⊥
         tie-free T = omega (arith, T .odd, even-exact (sym (mul-div-cancel N square-pos) ∙ ap (λ (x : ℕ). x / (2 ^ g * 2 ^ g)) (T .exact) ∙ mul-div-cancel (w * w) square-pos))
 
     -- half of the root of n is nearer to z, the rounded half of w, than to any other y of 53 digits
     strict-sides : (m j : ℕ) → m < 2 ^ 53 → let y = m * 2 ^ j in let z = halfUp w * 2 ^ g in (z < y → n < (z + y) * (z + y)) × (y < z → (y + z) * (y + z) < n)
-    strict-sides m j few = rw (sym half-here) (λ l. strict (nearest-above n w r g root-here (λ _. long) m j few l), λ l. strict (nearest-below n w r g root-here (λ _. long) m j few l))
+    strict-sides m j few = rw (sym half-here) (λ l. strict-here (nearest-above n w r g root-here (λ _. long) m j few l), λ l. strict-here (nearest-below n w r g root-here (λ _. long) m j few l))
 
 -- ---- the parts of a number of units
 

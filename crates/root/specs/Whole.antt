@@ -2,7 +2,7 @@
 use mathlib.Core.Path.{_≡_, subst}
 use mathlib.Core.Bool.{Bool, true, false, not, cond}
 use Prim.Native.Nat.{ℕ, zero, suc, _+_, _-_, _*_, _/_, _^_, _≤_, _<_, zero-le}
-use native.Mathlib.Nat.{le-antisymm, le-of-lt, le-of-suc-le-suc, lt-of-le-of-lt, lt-of-not-le, not-le-of-lt, mul-le-mul, mul-le-mul-left, mul-lt-mul-of-pos-right, pow-suc, div-lt-iff-lt-mul, zero-lt-suc}
+use native.Mathlib.Nat.{le-antisymm, le-of-lt, le-of-suc-le-suc, lt-irrefl, lt-of-le-of-lt, lt-of-not-le, not-le-of-lt, mul-le-mul, mul-le-mul-left, mul-lt-mul-of-pos-right, pow-suc, div-lt-iff-lt-mul, zero-lt-suc}
 use native.Mathlib.Omega.{arith}
 use lib.Dec.{T, leb, leb→le, nleb→lt}
 
@@ -26,6 +26,10 @@ root-of-rest n w r R = record { low = omega (arith, R .value); high = omega (ari
 
 pub rest-of-root : (n w : ℕ) → IsRoot n w → RootRest n w (n - w * w)
 rest-of-root n w R = record { value = omega (arith, R .low); rest = omega (arith, R .high) }
+
+-- a strict bound is a bound, and nothing comes of its being reached
+pub strictly : {P : Type 0} (a b : ℕ) → a < b → (a ≤ b) × (a ≡ b → P)
+strictly a b h = (le-of-lt h, λ e. absurd (lt-irrefl b (subst (λ (x : ℕ). x < b) e h)))
 
 -- squares are in the order of their sides
 pub side-lt : (a b : ℕ) → a * a < b * b → a < b

@@ -28,7 +28,7 @@ mul-result c = search needs
 nearest-half-requires : tie.Need-nearest-half-requires
 nearest-half-requires c κs = search needs
 
--- what is known of the half that is found: it has at most 53 digits, and the pattern made of it is the root's
+-- the half that is found has at most 53 digits
 small : (c : tie.After-nearest-half) → c .nearest-half .result < 2 ^ 53
 small c = let a = c .before .before .args in let h = c .before .before .pre in half-lt (a .p) (a .c) (h .0) (h .1 .0) (h .1 .1) _ _ _ (c .before .digits .ensures .0) (c .nearest-half .ensures)
 
