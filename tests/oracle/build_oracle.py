@@ -141,7 +141,7 @@ gen_mod = replace(gen_mod, "NORM_CLAMP_MIN", "norm_clamp_min()", 2)
 gen_svd = SVD
 gen_svd = replace(gen_svd, "use crate::backend::NORM_CLAMP_MIN;", "use crate::backend::norm_clamp_min;", 1)
 gen_svd = replace(gen_svd, "if norm > NORM_CLAMP_MIN {", "if norm > norm_clamp_min() {", 1)
-# the one replaced call: document 01, "Complex number"
+# the one replaced call: document 02, W5
 gen_svd = replace(gen_svd, "let beta_norm = g_pq.norm();",
                   "let beta_norm = crate::surround::complex_size(g_pq);", 1)
 # where the Rust's unwrap panics on a NaN: told apart from every other panic by its payload
