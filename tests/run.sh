@@ -44,8 +44,8 @@ one_crate() { # NAME
 }
 
 everything() {
-    step 'the root against the machine'
-    tests/root_compare.sh 2000000
+    step 'the root against the machine, complex size against whole numbers'
+    tests/root_compare.sh 2000000 100000
     step 'every crate from nothing, every must-fail edit, every program (rt ci)'
     rt ci
     refused_for_a_fact target/must-fail
