@@ -18,6 +18,7 @@ oracle's walks are left out altogether.
          40   gates that permute the four bit pairs, with phases 1, -1, i, -i, and zeros of both signs; named gates
          36   random complex gates, unitary, general and sparse
          40   gates of extreme magnitudes: 1e150, 1e-160, 1e300, subnormal, mixed
+         18   amplitudes near 1e-80, and near 1e150, 9 of each: rotations from overlaps whose squares are out of range
          16   amplitudes that become infinite or NaN: 7
          38   truncation at D 1 to 4, values beside the resolution
           8   searched for: a QR column whose third pass shows, environments with infinities beside zeros
@@ -32,7 +33,7 @@ oracle's walks are left out altogether.
          12   boundary sizes: n 1, 32, 64, D 1 to 11, store and work just long enough or too short
          24   one qubit measured, reset and projected again and again
          32   epsilon and clamp, 0 and above
-        511   with 2,584 records: 2,238 accepted, 346 refused
+        529   with 2,674 records: 2,328 accepted, 346 refused
 """
 import pathlib
 import random
@@ -147,6 +148,10 @@ class Draw(random.Random):
         g = self.choice([self.unitary, self.general])()
         return [(size * a, size * b) for a, b in g]
 
+    def unlike(self, *sizes):
+        """Rows of two sizes in turn: on a fresh pair the two columns of its matrix have these sizes."""
+        return [(sizes[k // 4 % 2] * a, sizes[k // 4 % 2] * b) for k, (a, b) in enumerate(self.general())]
+
     def extreme(self):
         sizes = [1e150, -1e150, 1e-160, 5e-324, 1e-310, 2.2250738585072014e-308, 1e200, 1e300, 0.0, -0.0, 1.0]
         return [(self.choice(sizes) * self.small(), self.choice(sizes) * self.small()) for _ in range(16)]
@@ -236,6 +241,21 @@ def magnitudes(r):
     for size in (1e150, 1e-160, 5e-324, 1e-310, 1e300):
         add_drawn(r, "extreme magnitudes", 5, head, [lambda: r.scaled(size)], (2, 5))
     add_drawn(r, "extreme magnitudes", 15, head, [r.extreme], (2, 5))
+
+
+def squares_out_of_range(r):
+    """A gate that makes amplitudes small or large, then unitary ones: overlaps are in range, their squares subnormal or
+    infinite, and the pairs are rotated all the same."""
+    first = {
+        "amplitudes near 1e-80": lambda: r.scaled(r.choice([1e-80, 3e-81])),
+        "amplitudes near 1e150": lambda: r.unlike(1e150, r.choice([1e5, 1e8, 1e12])),
+    }
+    for category, scaled in first.items():
+        for k in range(9):
+            n, tiny = r.choice([2, 3, 3, 4]), lambda: r.choice([0.0, 1e-300])
+            records = [start(n, r.choice([2, 3, 4]), 63, tiny(), tiny()), gate(0, 1, scaled())]
+            records += [gate(*r.pair(n), r.unitary()), gate(*r.pair(n), r.unitary()), r.outcome(n)]
+            add(category, f"{k}: n {n}", records)
 
 
 def not_a_number(r):
@@ -441,6 +461,7 @@ def make_streams():
     permutations(draw("permutations"))
     random_gates(draw("random"))
     magnitudes(draw("magnitudes"))
+    squares_out_of_range(draw("squares out of range"))
     not_a_number(draw("not a number"))
     truncations(draw("truncations"))
     resolutions(draw("resolutions"))
