@@ -1,9 +1,9 @@
 #!/usr/bin/env python3
 """Fresh random streams through the port and the Rust, and a byte-flipping fuzz of `chainrun`.
 
-    python3 tests/oracle/scale.py OUT [--seeds N] [--from SEED] [--fuzz N] [--jobs N]
+    python3 tests/oracle/scale.py OUT [--seeds N] [--from SEED] [--fuzz N] [--jobs N] [--programs FOLDER]
 
-OUT has the oracle (build_oracle.py); target/bin has `chainrun` and `replay` (rt check chainrun replay).
+OUT has the oracle (build_oracle.py), FOLDER, target/bin by default, `chainrun` and `replay` (rt check chainrun replay).
 Streams: make_list.py's, drawn anew from each seed; those that are the same at every seed are left out. The lines of
 `chainrun` and the whole states and environments of `replay` are compared with the oracle's text.
 Fuzz: streams of the stored list with bytes changed, put in, taken out or cut off. `chainrun` has to end by itself, with
@@ -24,7 +24,6 @@ TOP = pathlib.Path(__file__).resolve().parent.parent.parent
 sys.path.insert(0, str(TOP / "tests"))
 import stored
 
-CHAINRUN, REPLAY = TOP / "target/bin/chainrun", TOP / "target/bin/replay"
 FIXED = {"run cases", "refusals 1 and 2", "bad codes, kinds and lengths", "searched for"}
 
 
@@ -34,12 +33,12 @@ def run(words, data):
 
 
 def one_seed(job):
-    oracle, seed = job
+    oracle, programs, seed = job
     make_list.SEED = seed
     make_list.streams.clear()
     make_list.make_streams()
     drawn = [(c, n, data) for c, n, data, _, _ in make_list.streams if c not in FIXED]
-    _, text = run([REPLAY], b"".join(struct.pack("<I", len(d)) + d for _, _, d in drawn))
+    _, text = run([programs / "replay"], b"".join(struct.pack("<I", len(d)) + d for _, _, d in drawn))
     count, faults = collections.Counter(), []
     for (category, name, data), states in zip(drawn, stored.sections(text.decode()), strict=True):
         want = make_list.kept(make_list.ask(oracle, data))
@@ -48,7 +47,7 @@ def one_seed(job):
         count["records"] += len(lines)
         if states != want:
             faults.append(f"seed {seed}, {category}, {name}: whole states differ")
-        if run([CHAINRUN], data)[1].decode().splitlines() != lines:
+        if run([programs / "chainrun"], data)[1].decode().splitlines() != lines:
             faults.append(f"seed {seed}, {category}, {name}: chainrun's lines differ")
     return count, faults
 
@@ -70,13 +69,13 @@ def changed(r, stream):
 
 
 def fuzzed(job):
-    oracle, seed, count = job
+    oracle, programs, seed, count = job
     r, streams = random.Random(seed), [s for s in stored.streams() if s]
     faults, ends = [], collections.Counter()
     for k in range(count):
         data = changed(r, r.choice(streams))
         try:
-            status, text = run([CHAINRUN], data)
+            status, text = run([programs / "chainrun"], data)
         except subprocess.TimeoutExpired:
             faults.append(f"fuzz {seed}/{k}: no end within ten seconds: {data.hex()}")
             continue
@@ -94,15 +93,16 @@ def main():
     p.add_argument("--from", type=int, default=1000, dest="first")
     p.add_argument("--fuzz", type=int, default=100000)
     p.add_argument("--jobs", type=int, default=2)
+    p.add_argument("--programs", type=pathlib.Path, default=TOP / "target/bin")
     a = p.parse_args()
     oracle = str(pathlib.Path(a.out) / "oracle_run")
     chunk = 1000
     total, faults, ends = collections.Counter(), [], collections.Counter()
     with multiprocessing.Pool(a.jobs) as pool:
-        for count, found in pool.imap_unordered(one_seed, [(oracle, a.first + k) for k in range(a.seeds)]):
+        for count, found in pool.imap_unordered(one_seed, [(oracle, a.programs, a.first + k) for k in range(a.seeds)]):
             total.update(count)
             faults += found
-        for found_ends, found in pool.imap_unordered(fuzzed, [(oracle, k, min(chunk, a.fuzz - k)) for k in range(0, a.fuzz, chunk)]):
+        for found_ends, found in pool.imap_unordered(fuzzed, [(oracle, a.programs, k, min(chunk, a.fuzz - k)) for k in range(0, a.fuzz, chunk)]):
             ends.update(found_ends)
             faults += found
     records = total.pop("records", 0)
