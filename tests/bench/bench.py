@@ -5,9 +5,15 @@
     python3 tests/bench/bench.py RUST OUT count         # instructions, by valgrind's callgrind
 
 RUST is the folder of the Rust text, OUT a folder to build in (tests/oracle/build_oracle.py says what that needs). The
-port is linked as a static library that `rt staticlib` writes once it is proved. Two builds of the Rust stand beside it:
-as it is, and with each square root taken by the port's root. Prints microseconds a gate and the ratios, the best of
-ROUNDS (5); ONLY names the circuits to run. A run of all circuits also draws OUT/speed.svg, which docs/SPEED.md shows.
+port is linked as a static library that `rt staticlib` writes once it is proved. Three builds of the Rust stand beside it:
+
+    shipped    as it ships, complex size by its own `hypot`: timed, 'Rust' in the tables
+    rooted     each square root and complex size taken by the port's functions: timed, 'Rust, our root'
+    oracle     complex size replaced by the correctly rounded one: run once for each circuit, not timed
+
+The weights that port, oracle and rooted discard are asserted to be equal to the bit; the shipped Rust's may differ.
+Prints microseconds a gate and the ratios, the best of ROUNDS (5); ONLY names the circuits to run. A run of all circuits
+also draws OUT/speed.svg, which docs/SPEED.md shows.
 """
 import os, re, shutil, subprocess, sys
 
@@ -34,21 +40,23 @@ def rust_files(folder):
     return [os.path.join(d, f) for d, _, files in os.walk(folder) for f in files if f.endswith(".rs")]
 
 
-if not os.path.isdir(os.path.join(OUT, "crate")):
-    run("python3", os.path.join(TOP, "tests", "oracle", "build_oracle.py"), RUST, OUT)
+run("python3", os.path.join(TOP, "tests", "oracle", "build_oracle.py"), RUST, OUT)
 for name in ("root_export", "bench_export"):
     run("rt", "staticlib", name, cwd=TOP, stdout=subprocess.DEVNULL, stderr=subprocess.DEVNULL)
 
-# the Rust with the port's root
-rooted = os.path.join(OUT, "rooted")
-bench = os.path.join(OUT, "bench")
-for folder in (rooted, bench):
+SIZE = "crate::surround::complex_size(g_pq)"
+shipped, rooted, bench = (os.path.join(OUT, name) for name in ("shipped", "rooted", "bench"))
+for folder in (shipped, rooted, bench):
     shutil.rmtree(folder, ignore_errors=True)
     shutil.copytree(os.path.join(OUT, "crate"), folder, ignore=shutil.ignore_patterns("target"))
     manifest = os.path.join(folder, "Cargo.toml")
     text = re.sub(r"\[\[bin\]\]\nname = .*\npath = .*\n", "", open(manifest).read())
     open(manifest, "w").write(text)
-replaced(os.path.join(rooted, "Cargo.toml"), 'name = "oracle"', 'name = "rooted"')
+for folder, size in ((shipped, "g_pq.norm()"), (rooted, "unsafe { crate::jondwave_norm(g_pq.re, g_pq.im) }")):
+    replaced(os.path.join(folder, "Cargo.toml"), 'name = "oracle"', f'name = "{os.path.basename(folder)}"')
+    replaced(os.path.join(folder, "src", "mps", "svd.rs"), SIZE, size)
+
+# square roots by the port
 for path in rust_files(os.path.join(rooted, "src")):
     text = open(path).read()
     if ".sqrt()" in text:
@@ -59,6 +67,7 @@ with open(os.path.join(rooted, "src", "lib.rs"), "a") as f:
     f.write("""
 unsafe extern "C" {
     fn jondwave_root(x: f64) -> f64;
+    pub fn jondwave_norm(re: f64, im: f64) -> f64;
 }
 pub trait PortRoot {
     fn port_root(self) -> f64;
@@ -70,9 +79,9 @@ impl PortRoot for f64 {
 }
 """)
 
-# the benchmark, over both
+# the benchmark, over all three
 shutil.copy(os.path.join(HERE, "port_bench.rs"), os.path.join(bench, "src"))
-replaced(os.path.join(bench, "Cargo.toml"), "[dependencies]", '[[bin]]\nname = "port_bench"\npath = "src/port_bench.rs"\n\n[dependencies]\nrooted = { path = "../rooted" }')
+replaced(os.path.join(bench, "Cargo.toml"), "[dependencies]", '[[bin]]\nname = "port_bench"\npath = "src/port_bench.rs"\n\n[dependencies]\nshipped = { path = "../shipped" }\nrooted = { path = "../rooted" }')
 libs = os.path.join(TOP, "target", "staticlib")
 flags = f"-L {libs} -l static=bench_export -l static=root_export"
 run("cargo", "build", "--release", "--offline", "--quiet", "--bin", "port_bench", cwd=bench, env={**os.environ, "RUSTFLAGS": flags + " -Awarnings"})

@@ -1,8 +1,11 @@
 //! The port and the Rust on the same gates, interleaved in one process: microseconds a gate, the best of some rounds.
-//! `rooted` is the same Rust with each square root taken by the port's own root, so that what the root costs is seen.
+//! `shipped` is the Rust with its own `hypot`. `rooted` is the Rust with each square root and complex size taken by the
+//! port's functions, so that what they cost is seen. `oracle`, with complex size correctly rounded, is run once and not
+//! timed: the port and `rooted` must discard the weight that it discards, to the bit.
 use num_complex::Complex64;
-use oracle::mps::access as rust;
+use oracle::mps::access as oracle_rust;
 use rooted::mps::access as rooted_rust;
+use shipped::mps::access as shipped_rust;
 use std::time::Instant;
 
 unsafe extern "C" {
@@ -39,7 +42,7 @@ impl Rng {
 /// The q of a random matrix's QR factoring.
 fn unitary(r: &mut Rng) -> Gate {
     let a: Vec<Complex64> = (0..16).map(|_| Complex64::new(r.normal(), r.normal())).collect();
-    let (q, _, k) = rust::qr(&a, 4, 4);
+    let (q, _, k) = oracle_rust::qr(&a, 4, 4);
     assert!(k == 4);
     std::array::from_fn(|i| std::array::from_fn(|j| q[j * 4 + i]))
 }
@@ -108,8 +111,9 @@ macro_rules! runs {
         }
     };
 }
-runs!(by_rust, rust);
+runs!(by_rust, shipped_rust);
 runs!(by_rooted, rooted_rust);
+runs!(by_oracle, oracle_rust);
 
 fn timed(best: &mut f64, run: impl FnOnce() -> f64) -> u64 {
     let t = Instant::now();
@@ -141,13 +145,14 @@ fn main() {
         let mut store = vec![0.0f64; 4 * n * d * d];
         let mut work = vec![0.0f64; 80 * d * d + 16 * d];
         let (mut port, mut rust, mut rooted) = (f64::MAX, f64::MAX, f64::MAX);
+        let want = by_oracle(*n, *d, gates).to_bits();
         for _ in 0..rounds {
             let x = timed(&mut port, || unsafe {
                 jondwave_gates(*n, *d, EPSILON, CLAMP, bytes.as_ptr(), bytes.len(), store.as_mut_ptr(), store.len(), work.as_mut_ptr(), work.len())
             });
-            let y = timed(&mut rust, || by_rust(*n, *d, gates));
-            let z = timed(&mut rooted, || by_rooted(*n, *d, gates));
-            assert!(x == y && y == z, "discarded weights differ");
+            timed(&mut rust, || by_rust(*n, *d, gates));
+            let y = timed(&mut rooted, || by_rooted(*n, *d, gates));
+            assert!(x == want && y == want, "discarded weights differ");
         }
         let c = 1e6 / gates.len() as f64;
         println!(
