@@ -10,16 +10,16 @@ notices it; that a program traps or does not end is noticed too.
     list      the stored list, whole states (program replay)
     states    the cases of compare.py, whole states against the oracle (program harness)
     cases     tests/chainrun.py (program chainrun)
-    exports   functions called by themselves (program exports): roots and sizes against the machine's, lists of gates
-              against the oracle; an f64's bits, a record's lengths, what a run starts from, the named gates and lines
-              against what is promised
+    exports   functions called by themselves (program exports): roots against the machine's, sizes against whole
+              numbers, lists of gates against the oracle; an f64's bits, a record's lengths, what a run starts from,
+              the named gates and lines against what is promised
 """
 import collections, math, os, pathlib, re, signal, struct, subprocess, sys
 import build_harness, compare
 
 TOP = pathlib.Path(build_harness.TOP)
 sys.path.insert(0, str(TOP / "tests"))
-import stored
+import size_compare, stored
 
 SEED = 1
 
@@ -98,10 +98,10 @@ class Exports:
         for x in numbers:
             self.data += self.ask(1, compare.bits(x))
             self.want.append(self.root(x))
-        for x, y in zip(numbers, reversed(numbers)):
-            x, y = t.r.choice([(x, y), (t.small(), t.small())])
-            self.data += self.ask(2, compare.bits(x), compare.bits(y))
-            self.want.append(self.root(x * x + y * y))
+        drawn = size_compare.Pairs(SEED)
+        for x, y in [pair[:2] for pair in size_compare.CASES] + size_compare.special() + [drawn.drawn(k) for k in range(2000)]:
+            self.data += self.ask(2, x, y)
+            self.want.append(size_compare.size(x, y)[0])
         for n, d, epsilon, clamp in [(2, 2, 0.0, 0.0), (5, 4, 1e-3, 0.0), (8, 4, 0.3, 1e-30), (20, 2, 0.0, 0.5), (32, 2, 1e-12, 1e-30)]:
             self.gates(t, oracle, n, d, epsilon, clamp)
         for w in [0, 1, compare.BIG, *(s | x for s in (0, 1 << 63) for e in (0x7FF0, 0x7FF8) for x in range((e << 48) - 1, (e << 48) + 2))]:
