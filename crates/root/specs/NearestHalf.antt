@@ -35,6 +35,11 @@ pub half-exact : (w : ℕ) → nearestHalf w false ≡ (w + w / 2 % 2) / 2
 unfolding nearestHalf
 half-exact w = elim (parity w) [ inl e ↦ rw e (omega arith) | inr e ↦ rw e (omega arith) ]
 
+-- an even number has its half
+pub half-even : (m : ℕ) (more : Bool) → nearestHalf (2 * m) more ≡ m
+half-even m true = half-more (2 * m) ∙ omega arith
+half-even m false = half-exact (2 * m) ∙ omega arith
+
 -- where there is no tie, half of w is rounded up
 pub no-tie : (w : ℕ) (more : Bool) → (more ≡ false → w % 2 ≡ 0) → nearestHalf w more ≡ halfUp w
 unfolding halfUp
@@ -57,6 +62,12 @@ halved w false = elim (parity w) [
     | inr f ↦ up (rw (e, f) (omega arith)) e (λ _. rw (e, f) (omega arith))
   ]
 ]
+
+pub half-few : (w : ℕ) (more : Bool) → w < 2 ^ 54 → nearestHalf w more ≤ 2 ^ 53
+half-few w more l = elim (halved w more) [ even e ↦ omega (arith, e, l) | up e _ _ ↦ omega (arith, e, l) | down e _ _ _ ↦ omega (arith, e, l) ]
+
+pub half-least : (w : ℕ) (more : Bool) → 2 ^ 53 ≤ w → 2 ^ 52 ≤ nearestHalf w more
+half-least w more l = elim (halved w more) [ even e ↦ omega (arith, e, l) | up e _ _ ↦ omega (arith, e, l) | down e _ _ _ ↦ omega (arith, e, l) ]
 
 -- ---- Why it is nearest. n is four times a square, so that half of n's root is the square's. G = 2 ^ g is the weight of the last digit that is kept, w the whole root of n / (G * G), and r what is left; n % (G * G) is cut off below.
 -- Half of w, rounded, is h, which has 53 digits at least, unless G is 1. No number y = m * 2 ^ j with an m of at most 53 digits is nearer to half of n's root than h * G is; where one is as near, n's root is w * G with an odd w, and h is even.
@@ -94,21 +105,18 @@ module _ (n w r g : ℕ) (R : RootRest (n / (2 ^ g * 2 ^ g)) w r) (long : 0 < g 
   high : n < suc w * suc w * (G * G)
   high = let a : suc N ≤ suc w * suc w = omega (arith, R .value, R .rest) in lt-of-lt-of-le (omega (arith, div-add-mod' n (G * G), mod-lt n square-pos, suc-mul N (G * G))) (mul-le-mul-right (G * G) a)
 
-  exact-none : more ≡ false → n ≡ w * w * (G * G)
+  pub exact-none : more ≡ false → n ≡ w * w * (G * G)
   exact-none e =
       let z = none-left (n % (G * G)) r e in
       let a : N ≡ w * w = omega (arith, R .value, z .1) in
       sym (div-add-mod' n (G * G)) ∙ rw (z .0, a) (omega arith)
 
-  none-exact : n ≡ w * w * (G * G) → more ≡ false
+  pub none-exact : n ≡ w * w * (G * G) → more ≡ false
   none-exact e =
       let a : n % (G * G) ≡ 0 = ap (λ (x : ℕ). x % (G * G)) e ∙ mul-mod-left (w * w) (G * G) in
       let b : N ≡ w * w = ap (λ (x : ℕ). x / (G * G)) e ∙ mul-div-cancel (w * w) square-pos in
       let c : r ≡ 0 = omega (arith, R .value) in
       rw (a, c) refl
-
-  half-low : 0 < g → 2 ^ 52 ≤ h
-  half-low p = let l = long p in elim (halved w more) [ even e ↦ omega (arith, e, l) | up e _ _ ↦ omega (arith, e, l) | down e _ _ _ ↦ omega (arith, e, l) ]
 
   module _ (m j : ℕ) (few : m < 2 ^ 53) where
     abbrev y : ℕ
@@ -128,7 +136,7 @@ module _ (n w r g : ℕ) (R : RootRest (n / (2 ^ g * 2 ^ g)) w r) (long : 0 < g 
     next-above : h * G < y → suc h * G ≤ y
     next-above l = elim multiple-or-small [
       | inl p ↦ subst (λ (x : ℕ). suc h * G ≤ x) (sym (p .1)) (mul-le-mul-right G (lt-of-mul-lt-mul-right G (subst (λ (x : ℕ). h * G < x) (p .1) l)))
-      | inr p ↦ absurd (not-le-of-lt (lt-of-lt-of-le (p .1) (mul-le-mul-right G (half-low (p .0)))) (le-of-lt l))
+      | inr p ↦ absurd (not-le-of-lt (lt-of-lt-of-le (p .1) (mul-le-mul-right G (half-least w more (long (p .0))))) (le-of-lt l))
     ]
 
     -- below h * G, where 2 * h is above w, the next is (h - 1) * G

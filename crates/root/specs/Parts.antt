@@ -59,6 +59,15 @@ four-pow (suc h) = pow-suc 4 h ∙ ap (λ (x : ℕ). x * 4) (four-pow h) ∙ sym
     next : (h : ℕ) → 2 * h + 2 ≡ 2 * suc h
     next h = omega arith
 
+pub four-square : (k : ℕ) → 4 ^ k ≡ 2 ^ k * 2 ^ k
+four-square k = four-pow k ∙ ap (λ (x : ℕ). 2 ^ x) (twice k) ∙ pow-add 2 k k
+  where
+    twice : (k : ℕ) → 2 * k ≡ k + k
+    twice k = omega arith
+
+pub four-pos : (k : ℕ) → 0 < 4 ^ k
+four-pos k = subst (λ (x : ℕ). 0 < x) (sym (four-pow k)) (pow-pos (2 * k))
+
 pub scaled-whole : (n p c : ℕ) → Parts n p c → n * 4 ^ 54 ≡ scaled p c * 4 ^ (suc p / 2)
 unfolding scaled
 scaled-whole n p c P =

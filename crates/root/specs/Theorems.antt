@@ -1,4 +1,4 @@
--- What is proved of the root. `root-nearest` and `only-nearest` together say which value `rootOf x` is: the one that IEEE 754-2019 asks for (`Nearest.antt`). Assumes nothing.
+-- What is proved of the root. `root-nearest` and `only-nearest` together say which value `rootOf x` is: the one that IEEE 754-2019 asks for (`Nearest.antt`). `NormTheorems.antt` has the same of the size. Assumes nothing.
 use mathlib.Core.Path.{_≡_, ap, _∙_, subst}
 use mathlib.Core.Bool.{true, false, not}
 use Prim.Native.Nat.{ℕ, zero, suc, _+_, _*_, _^_, _≤_, _<_}

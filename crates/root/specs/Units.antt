@@ -4,12 +4,12 @@ use mathlib.Core.Path.{_≡_, refl, sym, ap, _∙_, subst}
 use mathlib.Core.Bool.{Bool, true, false, not, _&&_, true≢false}
 use mathlib.Core.Logic.{inl, inr}
 use Prim.Native.Nat.{ℕ, zero, suc, _+_, _-_, _*_, _/_, _%_, _^_, _≤_, _<_}
-use native.Mathlib.Nat.{le-refl, le-trans, le-of-eq, le-of-lt, le-of-suc-le-suc, lt-of-le-of-lt, lt-of-lt-of-le, lt-of-not-le, not-le-of-lt, lt-irrefl, eq-or-lt-of-le, mul-lt-mul-of-pos-right, lt-of-mul-lt-mul-right, le-div-iff-mul-le, mul-assoc, mul-right-comm, mul-one, zero-mul, mul-div-cancel, zero-add}
+use native.Mathlib.Nat.{le-refl, mul-le-mul-right, two-pow-succ, zero-lt-suc, le-trans, le-of-eq, le-of-lt, le-of-suc-le-suc, lt-of-le-of-lt, lt-of-lt-of-le, lt-of-not-le, not-le-of-lt, lt-irrefl, eq-or-lt-of-le, mul-lt-mul-of-pos-right, lt-of-mul-lt-mul-right, le-div-iff-mul-le, mul-assoc, mul-right-comm, mul-one, zero-mul, mul-div-cancel, zero-add}
 use native.Mathlib.Omega.{arith}
 use lib.Arith.{lt-of-le-ne, le→nltb}
 use lib.IntN.{ℤ, pos, negsuc}
 use lib.Dec.{T, leb, ltb, eqb, leb→le, ltb→lt, lit<}
-use lib.Pow.{pow-pos, pow-add, pow-lt, shr-mono}
+use lib.Pow.{pow-pos, pow-add, pow-mono, pow-lt, shl-lt, shr-mono}
 use lib.Ieee.{Float, nan, inf, fin, binary64, up, down, size, fits, toBits, ofBits, isNan, nanBits, lt}
 use lib.Ieee.Digits.{back, size-lt, size-le, size-reaches}
 use lib.Ieee.Fits.{and-l, and-r, down-pos, kept-lt, inf-fits}
@@ -29,6 +29,12 @@ abbrev pub signClear : Float → Bool
 signClear nan = false
 signClear (inf s) = not s
 signClear (fin s m e) = not s
+
+-- the format holds a value of either sign
+pub unsigned-fits : (s : Bool) (m : ℕ) (e : ℤ) → T (fits binary64 (fin s m e)) → T (fits binary64 (fin false m e))
+unfolding fits
+unsigned-fits s zero e h = h
+unsigned-fits s (suc m) e h = h
 
 -- ---- the units of a finite value are exact
 
@@ -110,6 +116,41 @@ pattern-mono a b h = elim (eq-or-lt-of-le (fewer (size a) (size b) (size-le a (s
 
     carried : (j k x y : ℕ) → j < k → x < 2 ^ 53 → 2 ^ 52 ≤ y → j * 2 ^ 52 + x ≤ k * 2 ^ 52 + y
     carried j k x y h l g = omega arith
+
+-- h * 2 ^ g units have the pattern g * 2 ^ 52 + h, for an h of 53 binary digits, or of fewer where g is 0; 2 ^ 53 has it as well
+abbrev pub Significand : ℕ → ℕ → Type 0
+Significand h g = (h ≤ 2 ^ 53) × (0 < g → 2 ^ 52 ≤ h)
+
+pattern-kept : (m j : ℕ) → m < 2 ^ 53 → (0 < j → 2 ^ 52 ≤ m) → pattern (m * 2 ^ j) ≡ j * 2 ^ 52 + m
+unfolding pattern
+pattern-kept m j h k = ap (λ (x : ℕ). x * 2 ^ 52 + m * 2 ^ j / 2 ^ x) (dropped j k) ∙ ap (λ (x : ℕ). j * 2 ^ 52 + x) (mul-div-cancel m (pow-pos j))
+  where
+    high : size (m * 2 ^ j) ≤ 53 + j
+    high = size-le (m * 2 ^ j) (53 + j) (shl-lt 53 j h)
+
+    dropped : (i : ℕ) → (0 < i → 2 ^ 52 ≤ m) → size (m * 2 ^ i) - 53 ≡ i
+    dropped zero k = let l : size (m * 2 ^ 0) ≤ 53 + 0 = size-le (m * 2 ^ 0) (53 + 0) (shl-lt 53 0 h) in omega (arith, l)
+    dropped (suc i) k =
+        let u : size (m * 2 ^ suc i) ≤ 53 + suc i = size-le (m * 2 ^ suc i) (53 + suc i) (shl-lt 53 (suc i) h) in
+        let w : 2 ^ (52 + suc i) ≤ m * 2 ^ suc i = le-trans (le-of-eq (pow-add 2 52 (suc i))) (mul-le-mul-right (2 ^ suc i) (k (zero-lt-suc i))) in
+        let l : 52 + suc i < size (m * 2 ^ suc i) = lt-of-not-le (λ (g : size (m * 2 ^ suc i) ≤ 52 + suc i). not-le-of-lt (lt-of-lt-of-le (size-lt (m * 2 ^ suc i)) (pow-mono g)) w) in
+        omega (arith, u, l)
+
+pattern-at : (h g : ℕ) → Significand h g → pattern (h * 2 ^ g) ≡ g * 2 ^ 52 + h
+pattern-at h g s = elim (eq-or-lt-of-le (s .0)) [
+  | inl e ↦ rw e (ap pattern (carry g) ∙ pattern-kept (2 ^ 52) (suc g) (lit< tt) (λ _. le-refl (2 ^ 52)) ∙ omega arith)
+  | inr l ↦ pattern-kept h g l (s .1)
+]
+  where
+    carry : (g : ℕ) → 2 ^ 53 * 2 ^ g ≡ 2 ^ 52 * 2 ^ suc g
+    carry g = omega (arith, two-pow-succ g)
+
+pub bits-at : (v : Float) (h g : ℕ) → T (signClear v) → Significand h g → inUnits v ≡ h * 2 ^ g → toBits binary64 v ≡ g * 2 ^ 52 + h
+bits-at v h g p s e = bits-pattern v p ∙ ap pattern e ∙ pattern-at h g s
+
+pub top-at : (h g : ℕ) → Significand h g → 2 ^ 2098 ≤ h * 2 ^ g → 0x7FF0_0000_0000_0000 ≤ g * 2 ^ 52 + h
+unfolding toBits inUnits
+top-at h g s o = le-trans (le-of-eq (bits-pattern (inf false) tt)) (le-trans (pattern-mono (2 ^ 2098) (h * 2 ^ g) o) (le-of-eq (pattern-at h g s)))
 
 -- ---- which values have the sign clear
 

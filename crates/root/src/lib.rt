@@ -1,18 +1,22 @@
 // The square root of an f64, correctly rounded, and the size of a complex number.
 // The root is found a binary digit at a time, highest first, in 64-bit whole numbers.
 use complex::Complex;
-use complex::norm_sqr;
 ghost use mathlib.Core.Path.{_≡_};
-ghost use mathlib.Core.Bool.{_||_};
-ghost use Prim.Native.Nat.{suc, _+_, _*_, _^_, _≤_, _<_};
-ghost use lib.Dec.{ltb};
-ghost use lib.Ieee.{binary64, ofBits};
+ghost use mathlib.Core.Bool.{false, _||_};
+ghost use Prim.Native.Nat.{suc, _+_, _*_, _/_, _%_, _^_, _≤_, _<_};
+ghost use lib.Dec.{T, ltb};
+ghost use lib.Ieee.{binary64, fits, units, ofBits, toBits};
 ghost use Rattle.root.specs.Root.{rootOf};
-ghost use Rattle.root.specs.Norm.{normOf};
+ghost use Rattle.root.specs.NearestRoot.{nearestRoot};
+ghost use Rattle.root.specs.Norm.{sumOfSquares, normOf};
 ghost use Rattle.root.specs.Whole.{RootRest};
 ghost use Rattle.root.specs.Digits.{fed};
 ghost use Rattle.root.specs.NearestHalf.{nearestHalf};
 ghost use Rattle.root.specs.Parts.{fromParts};
+ghost use Rattle.root.specs.Wide.{whole, Holds};
+ghost use Rattle.root.specs.FromUnits.{Decodes};
+ghost use Rattle.root.specs.HalfRoot.{halfRoot};
+ghost use Rattle.root.specs.NormMethod.{scaledSum, cutOff};
 
 // The digits found of a root, and what the number's digits so far are above their square.
 struct Found {
@@ -108,9 +112,178 @@ pub fn root(x: f64) -> f64
     positive(b)
 }
 
-// The size of a complex number: the root of its rounded `norm_sqr`.
+// ---- the size of a complex number
+
+// A whole number of up to 108 binary digits, hi * 2^54 + lo, and whether anything was cut off below it.
+struct Wide {
+    hi: u64,
+    lo: u64,
+    cut: bool,
+}
+
+// The square of m, by halves of 27 binary digits.
+fn square(m: u64) -> Wide
+    requires { ⌜ m < 2 ^ 54 ⌝ }
+    ensures { λ n. ⌜ Holds n (m * m) false ⌝ }
+{
+    let a = m >> 27;
+    let b = m % 0x800_0000;
+    let c = a * b;
+    let lo = b * b + c % 0x400_0000 * 0x1000_0000;
+    let hi = a * a + (c >> 26) + (lo >> 54);
+    Wide {
+        hi: hi,
+        lo: lo % 0x40_0000_0000_0000,
+        cut: false,
+    }
+}
+
+// The whole part of n / 4^k.
+fn quotient(n: Wide, k: u64) -> Wide
+    requires { ⌜ n .lo < 2 ^ 54 ⌝ }
+    requires { ⌜ k ≤ 26 ⌝ }
+    ensures { λ m. ⌜ Holds m (whole n / 4 ^ k) (n .cut || ltb 0 (whole n % 4 ^ k)) ⌝ }
+{
+    let t: u64 = 1 << (2 * k);
+    let u: u64 = 1 << (54 - 2 * k);
+    let hi = n.hi / t;
+    let lo = n.hi % t * u + n.lo / t;
+    let cut = n.cut || n.lo % t > 0;
+    Wide {
+        hi: hi,
+        lo: lo,
+        cut: cut,
+    }
+}
+
+// m + n, where nothing was cut off below m.
+fn sum(m: Wide, n: Wide) -> Wide
+    requires { ⌜ m .hi < 2 ^ 54 ⌝ }
+    requires { ⌜ m .lo < 2 ^ 54 ⌝ }
+    requires { ⌜ n .hi < 2 ^ 54 ⌝ }
+    requires { ⌜ n .lo < 2 ^ 54 ⌝ }
+    ensures { λ s. ⌜ Holds s (whole m + whole n) (n .cut) ⌝ }
+{
+    let lo = m.lo + n.lo;
+    Wide {
+        hi: m.hi + n.hi + (lo >> 54),
+        lo: lo % 0x40_0000_0000_0000,
+        cut: n.cut,
+    }
+}
+
+// A finite value, its sign aside: significand * 2^exponent units of 2^-1074.
+struct Decoded {
+    significand: u64,
+    exponent: u64,
+}
+
+// The value with the bit pattern b. A subnormal one has no leading digit, and the exponent of the smallest normal ones.
+fn integer_decode(b: u64) -> Decoded
+    requires { ⌜ b < 0x7ff0_0000_0000_0000 ⌝ }
+    ensures { λ d. ⌜ Decodes b (d .significand) (d .exponent) ⌝ }
+{
+    let e = b >> 52;
+    let t = b % 0x10_0000_0000_0000;
+    if e == 0 {
+        Decoded {
+            significand: t,
+            exponent: 0,
+        }
+    } else {
+        Decoded {
+            significand: 0x10_0000_0000_0000 + t,
+            exponent: e - 1,
+        }
+    }
+}
+
+// h * 2^g units, where h may be 2^53. Past the largest f64 the pattern is the infinity's, and not one that follows it.
+fn from_units(h: u64, g: u64) -> f64
+    requires { ⌜ h ≤ 2 ^ 53 ⌝ }
+    requires { ⌜ (0 < g → 2 ^ 52 ≤ h) ⌝ }
+    requires { ⌜ g ≤ 2046 ⌝ }
+    ensures { λ r. ⌜ r ≡ units binary64 false h g ⌝ }
+{
+    let b = g * 0x10_0000_0000_0000 + h;
+    if b > 0x7ff0_0000_0000_0000 {
+        f64::from_bits(0x7ff0_0000_0000_0000)
+    } else {
+        f64::from_bits(b)
+    }
+}
+
+// Half of the root of n, rounded to the nearest, times 2^g units.
+fn half_root(n: Wide, g: u64) -> f64
+    requires { ⌜ n .hi < 2 ^ 54 ⌝ }
+    requires { ⌜ n .lo < 2 ^ 54 ⌝ }
+    requires { ⌜ (0 < g → 2 ^ 52 ≤ n .hi) ⌝ }
+    requires { ⌜ g ≤ 2046 ⌝ }
+    ensures { λ r. ⌜ r ≡ halfRoot (whole n) (n .cut) g ⌝ }
+{
+    let first = digits(27, n.hi << 10, 0, 0);
+    let found = digits(27, n.lo << 10, first.root, first.rest);
+    from_units(nearest_half(found, n.cut), g)
+}
+
+// Four times the sum of the squares of a and b / 2^k, cut to a whole number.
+fn scaled_sum(a: u64, b: u64, k: u64) -> Wide
+    requires { ⌜ a < 2 ^ 53 ⌝ }
+    requires { ⌜ b < 2 ^ 53 ⌝ }
+    requires { ⌜ k ≤ 26 ⌝ }
+    ensures { λ n. ⌜ Holds n (scaledSum a b k) (cutOff b k) ⌝ }
+{
+    sum(square(2 * a), quotient(square(2 * b), k))
+}
+
+// The size of two finite parts, by their bit patterns without signs, the larger first. Their squares are added in units of
+// the larger one's last digit squared. From 27 exponents apart on the smaller square does not count.
+fn finite_norm(x: u64, y: u64) -> f64
+    requires { ⌜ y ≤ x ⌝ }
+    requires { ⌜ x < 0x7ff0_0000_0000_0000 ⌝ }
+    ensures { λ r. ⌜ r ≡ nearestRoot (sumOfSquares (ofBits binary64 x) (ofBits binary64 y)) ⌝ }
+{
+    let a = integer_decode(x);
+    let b = integer_decode(y);
+    let k = a.exponent - b.exponent;
+    if k >= 27 {
+        return f64::from_bits(x);
+    }
+    let n = scaled_sum(a.significand, b.significand, k);
+    if n.hi < 0x40_0000_0000_0000 {
+        half_root(n, a.exponent)
+    } else {
+        half_root(quotient(n, 1), a.exponent + 1)
+    }
+}
+
+// The bit pattern of x without its sign; that of a NaN is above the infinity's. And x is a value of its format.
+fn magnitude(x: f64) -> u64
+    ensures { λ b. ⌜ b ≡ toBits binary64 x % 2 ^ 63 ⌝ }
+    ensures { λ b. ⌜ T (fits binary64 x) ⌝ }
+{
+    if x != x {
+        return 0x7ff8_0000_0000_0000;
+    }
+    f64::to_bits(x) % 0x8000_0000_0000_0000
+}
+
+// The size of a complex number: the f64 nearest to the exact root of the sum of its parts' squares, ties to even.
 pub fn norm(a: Complex) -> f64
     ensures { λ r. ⌜ r ≡ normOf a ⌝ }
 {
-    root(norm_sqr(a))
+    let top: u64 = 0x7ff0_0000_0000_0000;
+    let x = magnitude(a.re);
+    let y = magnitude(a.im);
+    if x == top || y == top {
+        return f64::from_bits(top);
+    }
+    if x > top || y > top {
+        return 0.0 / 0.0;
+    }
+    if x < y {
+        finite_norm(y, x)
+    } else {
+        finite_norm(x, y)
+    }
 }

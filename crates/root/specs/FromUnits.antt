@@ -1,0 +1,78 @@
+-- h * 2 ^ g units as a value (`units` of lib.Ieee, which from 2 ^ 1024 on is the infinity), and the bit pattern that it has. Assumes nothing.
+use mathlib.Core.Path.{_≡_, refl, sym, ap, _∙_, subst}
+use mathlib.Core.Bool.{Bool, false, cond}
+use Prim.Native.Nat.{ℕ, _+_, _*_, _^_, _≤_, _<_}
+use native.Mathlib.Nat.{le-antisymm, le-of-lt, lt-of-le-of-lt, lt-of-not-le, not-le-of-lt}
+use native.Mathlib.Decide.{decLe}
+use lib.Dec.{T, ltb, lt→ltb, lit<}
+use lib.Arith.{le→nltb}
+use lib.Ieee.{Float, inf, binary64, fits, odd, units, ofBits, toBits}
+use lib.Ieee.Bits.{is-true, cond-no, ofBits-toBits}
+use lib.Ieee.Fits.{odd-fits}
+use lib.Ieee.Exact.{HasValue, units-val}
+use Rattle.root.specs.Units.{Significand, inUnits, units-of-value, units-top, value-sign, bits-at, top-at}
+use Rattle.root.specs.Nearest.{Candidate}
+
+-- b is the pattern of m * 2 ^ e units, a finite value's
+pub record Decodes (b m e : ℕ) : Type 0 where
+  pub value : b ≡ e * 2 ^ 52 + m
+  pub few : m < 2 ^ 53
+  pub full : 0 < e → 2 ^ 52 ≤ m
+
+pub top-value : ofBits binary64 0x7FF0_0000_0000_0000 ≡ inf false
+unfolding ofBits
+top-value = refl
+
+module _ (h g : ℕ) (S : Significand h g) where
+  abbrev v : Float
+  v = units binary64 false h g
+
+  module _ (finite : h * 2 ^ g < 2 ^ 2098) where
+    value : HasValue v false (h * 2 ^ g) (2 ^ 1074)
+    value = units-val binary64 false h g finite
+
+    pub units-count : inUnits v ≡ h * 2 ^ g
+    units-count = units-of-value v (h * 2 ^ g) value
+
+    as-odd : v ≡ odd 54 false h g 1074
+    unfolding units
+    as-odd = ap (λ (b : Bool). cond b (odd 54 false h g 1074) (inf false)) (is-true (ltb (h * 2 ^ g) (2 ^ 2098)) (lt→ltb (h * 2 ^ g) (2 ^ 2098) finite))
+
+    pub units-candidate : Candidate v
+    units-candidate = record {
+      held = subst (λ (x : Float). T (fits binary64 x)) (sym as-odd) (odd-fits binary64 54 false h g (lt-of-le-of-lt (S .0) (lit< tt)) (S .0) finite);
+      sign = value-sign v (h * 2 ^ g) (2 ^ 1074) value;
+    }
+
+    pub units-bits : toBits binary64 v ≡ g * 2 ^ 52 + h
+    units-bits = bits-at v h g (units-candidate .sign) S units-count
+
+  pub units-infinite : 2 ^ 2098 ≤ h * 2 ^ g → v ≡ inf false
+  unfolding units
+  units-infinite o = cond-no (ltb (h * 2 ^ g) (2 ^ 2098)) (odd 54 false h g 1074) (inf false) (le→nltb (h * 2 ^ g) (2 ^ 2098) o)
+
+  -- ---- as a program makes it of its pattern
+
+  pub pattern-below : g * 2 ^ 52 + h ≤ 0x7FF0_0000_0000_0000 → ofBits binary64 (g * 2 ^ 52 + h) ≡ v
+  pattern-below l = elim (decLe (2 ^ 2098) (h * 2 ^ g)) [
+    | yes o ↦ ap (ofBits binary64) (le-antisymm l (top-at h g S o)) ∙ top-value ∙ sym (units-infinite o)
+    | no f ↦ let f = lt-of-not-le f in ap (ofBits binary64) (sym (units-bits f)) ∙ ofBits-toBits binary64 v (units-candidate f .held)
+  ]
+
+  pub pattern-above : 0x7FF0_0000_0000_0000 < g * 2 ^ 52 + h → ofBits binary64 0x7FF0_0000_0000_0000 ≡ v
+  pattern-above l = elim (decLe (2 ^ 2098) (h * 2 ^ g)) [
+    | yes o ↦ top-value ∙ sym (units-infinite o)
+    | no f ↦ let f = lt-of-not-le f in let C = units-candidate f in absurd (not-le-of-lt l (subst (λ (b : ℕ). b ≤ 0x7FF0_0000_0000_0000) (units-bits f) (units-top v (C .held) (C .sign))))
+  ]
+
+-- ---- a finite value by its pattern
+
+module _ (b m e : ℕ) (D : Decodes b m e) (below : b < 0x7FF0_0000_0000_0000) where
+  decoded-digits : Significand m e
+  decoded-digits = (le-of-lt (D .few), D .full)
+
+  pub decoded-value : ofBits binary64 b ≡ units binary64 false m e
+  decoded-value = ap (ofBits binary64) (D .value) ∙ pattern-below m e decoded-digits (le-of-lt (subst (λ (x : ℕ). x < 0x7FF0_0000_0000_0000) (D .value) below))
+
+  pub decoded-units : inUnits (ofBits binary64 b) ≡ m * 2 ^ e
+  decoded-units = ap inUnits decoded-value ∙ units-count m e decoded-digits (lt-of-not-le (λ o. not-le-of-lt (subst (λ (x : ℕ). x < 0x7FF0_0000_0000_0000) (D .value) below) (top-at m e decoded-digits o)))

@@ -1,0 +1,53 @@
+-- What is proved of the size. `norm-nearest` and `only-nearest` together say which value it is where both parts are finite: the one nearest to the root of the exact sum of squares, ties to even (`Nearest.antt`).
+-- `Norm.antt` has the other cases. Assumes nothing.
+use mathlib.Core.Path.{_≡_, refl, sym, ap, _∙_, subst}
+use mathlib.Core.Bool.{Bool, false}
+use Prim.Native.Nat.{ℕ, zero, suc, _+_, _-_, _*_, _^_, _≤_}
+use native.Mathlib.Nat.{add-zero}
+use lib.Dec.{T}
+use lib.IntN.{ℤ, pos}
+use lib.Ieee.{Float, inf, fin, binary64, fits}
+use lib.Ieee.Positive.{positive}
+use lib.Ieee.Scale.{finite}
+use Rattle.complex.specs.declared.Complex.{Complex}
+use Rattle.root.specs.Units.{inUnits, unsigned-fits}
+use Rattle.root.specs.Root.{rootOf}
+use Rattle.root.specs.Nearest.{Candidate, Nearest}
+use Rattle.root.specs.NearestLaws.{exact-nearest, overflow}
+use Rattle.root.specs.NearestRoot.{nearestRoot}
+use Rattle.root.specs.HalfRoot.{nearest-root}
+use Rattle.root.specs.Norm.{sumOfSquares, sizeOf, normOf, norm-finite}
+use Rattle.root.specs.Theorems.{only-nearest, root-nearest}
+
+-- the root is `nearestRoot` of an exact square that is an f64
+pub root-instance : (x : Float) → T (fits binary64 x) → T (positive x) → rootOf x ≡ nearestRoot (inUnits x * 2 ^ 1074)
+root-instance x h p = let q = inUnits x * 2 ^ 1074 in only-nearest (rootOf x) (nearestRoot q) q (root-nearest x h p) (nearest-root q)
+
+module _ (a : Complex) (re : T (finite (a .re))) (im : T (finite (a .im))) where
+  abbrev square : ℕ
+  square = sumOfSquares (a .re) (a .im)
+
+  pub norm-nearest : Nearest (normOf a) square
+  norm-nearest = subst (λ (v : Float). Nearest v square) (sym (norm-finite a re im)) (nearest-root square)
+
+  -- a value whose square is the sum is the size
+  pub norm-exact : (y : Float) → Candidate y → square ≡ inUnits y * inUnits y → normOf a ≡ y
+  norm-exact y C e = only-nearest (normOf a) y square norm-nearest (exact-nearest y square C e)
+
+  -- where the sum is an f64, the size is its root
+  pub norm-root : (x : Float) → T (fits binary64 x) → T (positive x) → square ≡ inUnits x * 2 ^ 1074 → normOf a ≡ rootOf x
+  norm-root x h p e = norm-finite a re im ∙ ap nearestRoot e ∙ sym (root-instance x h p)
+
+  -- past the largest value it is the infinity, from 2 ^ 1023 * (2 - 2 ^ -53) on, which is 2 ^ 2098 - 2 ^ 2044 units
+  pub norm-overflow : (2 ^ 2098 - 2 ^ 2044) * (2 ^ 2098 - 2 ^ 2044) ≤ square → normOf a ≡ inf false
+  norm-overflow h = only-nearest (normOf a) (inf false) square norm-nearest (overflow square h)
+
+-- two zeros, of any signs
+pub norm-zero : (s t : Bool) → normOf (record { re = fin s 0 (pos 0); im = fin t 0 (pos 0) }) ≡ fin false 0 (pos 0)
+unfolding normOf sizeOf inUnits nearestRoot
+norm-zero s t = refl
+
+-- a number on the real axis has the size of its real part
+pub norm-of-real : (s t : Bool) (m : ℕ) (e : ℤ) → T (fits binary64 (fin s m e)) → normOf (record { re = fin s m e; im = fin t 0 (pos 0) }) ≡ fin false m e
+unfolding inUnits
+norm-of-real s t m e h = norm-exact (record { re = fin s m e; im = fin t 0 (pos 0) }) tt tt (fin false m e) (record { held = unsigned-fits s m e h; sign = tt }) (add-zero (inUnits (fin false m e) * inUnits (fin false m e)))
