@@ -21,7 +21,6 @@ pub record Holds (n : Wide) (N : ℕ) (cut : Bool) : Type 0 where
   pub low : n .lo < 2 ^ 54
   pub flag : n .cut ≡ cut
 
-
 -- how large the upper word is
 pub upper-lt : (hi lo N : ℕ) → hi * 2 ^ 54 + lo ≡ N → N < 2 ^ 108 → hi < 2 ^ 54
 upper-lt hi lo N e h = omega arith

@@ -10,7 +10,6 @@ use Rattle.complex.specs.Loops.{each, between, tabulate, every}
 use Rattle.complex.specs.Numbers.{at, store, numbers}
 use Rattle.complex.specs.Matrix.{rows}
 use Rattle.root.specs.Root.{rootOf}
-use Rattle.root.specs.Norm.{normOf}
 use Rattle.gates.specs.Finite.{finiteC, allFinite}
 use Rattle.gates.specs.Gate.{gateOf, swapGateQubits}
 use Rattle.gates.specs.Named.{namedEntry, matrixOf}
@@ -90,5 +89,5 @@ table =
     ∷ []
 
 pub marked : allHold table ≡ true
-unfolding table sub mul div le isNan ofBits toBits addC subC negC conjC mulC isZero normSqr scaleC unscaleC each between tabulate every at store numbers rows rootOf normOf finiteC allFinite gateOf swapGateQubits namedEntry matrixOf filled l2Norm scaledTo zeroed dot term projectedOn takenAway passOf passesOf keptOf columnOf raised qr skipped tangent rotation rotatedP rotatedQ rotatedPair rotated pairStep rowOfPairs sweep sweeps identityAt normalised factored earlier later orderOf anyNan values svd rank resolvable share pair.matrixOf pairSvd isometrySite scaledSite vtSite scaledVtSite absorbedRight stepRight absorbedLeft stepLeft walkRight walkLeft moved established cutWith attempt adjacent stepped runSteps gateRun weight projectedSite projectedAt settingsFit bondsFit undoes sized sound freshChain freshStore zeroChain cleared startCall gateCall namedGateCall projectCall value bodySize fieldBytes hasLength moreBytes fieldsOf valid accepted readOf recordSize frames decimal hexDigit hexText detailText lineText startStep namedGateStep projectionStep kindStep inTurn stepOf linesFrom linesOf textOf
+unfolding table sub mul div le isNan ofBits toBits addC subC negC conjC mulC isZero normSqr scaleC unscaleC each between tabulate every at store numbers rows rootOf finiteC allFinite gateOf swapGateQubits namedEntry matrixOf filled l2Norm scaledTo zeroed dot term projectedOn takenAway passOf passesOf keptOf columnOf raised qr skipped tangent rotation rotatedP rotatedQ rotatedPair rotated pairStep rowOfPairs sweep sweeps identityAt normalised factored earlier later orderOf anyNan values svd rank resolvable share pair.matrixOf pairSvd isometrySite scaledSite vtSite scaledVtSite absorbedRight stepRight absorbedLeft stepLeft walkRight walkLeft moved established cutWith attempt adjacent stepped runSteps gateRun weight projectedSite projectedAt settingsFit bondsFit undoes sized sound freshChain freshStore zeroChain cleared startCall gateCall namedGateCall projectCall value bodySize fieldBytes hasLength moreBytes fieldsOf valid accepted readOf recordSize frames decimal hexDigit hexText detailText lineText startStep namedGateStep projectionStep kindStep inTurn stepOf linesFrom linesOf textOf
 marked = refl

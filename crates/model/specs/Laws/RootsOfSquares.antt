@@ -60,7 +60,6 @@ pub roots-of-squares : RootsOfSquares
 unfolding weight
 roots-of-squares = record {
   column = λ w base n. sum-rooted n _ (λ k. norm-rooted _);
-  size = norm-rooted;
   rotation = λ x. add-rooted oneF _ one-rooted (square-rooted x);
   outcome = λ bl br site o. sum-rooted bl _ (λ a. sum-rooted br _ (λ b. norm-rooted _));
 }
