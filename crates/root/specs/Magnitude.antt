@@ -1,13 +1,14 @@
 -- A value by its bit pattern without the sign, which is the pattern's rest by 2 ^ 63: above the infinity's for a NaN, the infinity's for either infinity, below it for a finite value. Assumes nothing.
+use borrow.Author.Tests.{eqb-true, eqb-false, ltb-true, ltb-false}
 use mathlib.Core.Path.{_≡_, refl, sym, ap, ap₂, _∙_, subst}
-use mathlib.Core.Bool.{Bool, true, false, not, cond}
+use mathlib.Core.Bool.{Bool, true, false, not, _||_, cond, true≢false}
 use mathlib.Core.Logic.{_⊎_, ⊎-elim, inl, inr}
-use Prim.Native.Nat.{ℕ, zero, suc, _+_, _*_, _%_, _^_, _≤_, _<_}
+use Prim.Native.Nat.{ℕ, zero, suc, _+_, _*_, _%_, _^_, _<_}
 use native.Mathlib.Nat.{lt-irrefl, lt-trans}
 use native.Mathlib.Omega.{arith}
 use lib.Arith.{lt-of-le-ne}
 use lib.IntN.{ℤ}
-use lib.Dec.{T, lit<}
+use lib.Dec.{T, ltb, eqb, lit<}
 use lib.Ieee.{Float, nan, inf, fin, binary64, fits, isNan, ne, ofBits, toBits}
 use lib.Ieee.Compare.{differs-from-itself}
 use lib.Ieee.Bits.{ofBits-toBits}
@@ -88,16 +89,34 @@ nan-magnitude x h = ap (λ (y : Float). toBits binary64 y % 2 ^ 63) (sym (differ
 
 -- ---- the size of a number by its parts' patterns
 
+either : (x y : Bool) → (x || y) ≡ true → (x ≡ true) ⊎ (y ≡ true)
+either true y e = inl refl
+either false y e = inr e
+
+neither : (x y : Bool) → (x || y) ≡ false → (x ≡ false) × (y ≡ false)
+neither true y e = absurd (true≢false e)
+neither false y e = (refl, e)
+
 module _ (a : Complex) (b c : ℕ) (R : b ≡ toBits binary64 (a .re) % 2 ^ 63) (I : c ≡ toBits binary64 (a .im) % 2 ^ 63) (r : T (fits binary64 (a .re))) (i : T (fits binary64 (a .im))) where
-  pub size-infinite : (b ≡ top) ⊎ (c ≡ top) → inf false ≡ normOf a
-  size-infinite p = sym (norm-infinite a (⊎-elim (λ e. inl (is-infinite (a .re) r (sym R ∙ e))) (λ e. inr (is-infinite (a .im) i (sym I ∙ e))) p))
+  pub size-infinite : (eqb b top || eqb c top) ≡ true → inf false ≡ normOf a
+  size-infinite p = sym (norm-infinite a (⊎-elim (λ e. inl (is-infinite (a .re) r (sym R ∙ eqb-true b top e))) (λ e. inr (is-infinite (a .im) i (sym I ∙ eqb-true c top e))) (either (eqb b top) (eqb c top) p)))
 
-  module _ (n : b ≡ top → ⊥) (m : c ≡ top → ⊥) where
-    pub size-nan : (top < b) ⊎ (top < c) → nan ≡ normOf a
-    size-nan p = sym (norm-nan a (not-infinite (a .re) (λ e. n (R ∙ e))) (not-infinite (a .im) (λ e. m (I ∙ e))) (⊎-elim (λ l. inl (is-nan (a .re) r (subst (λ (x : ℕ). top < x) R l))) (λ l. inr (is-nan (a .im) i (subst (λ (x : ℕ). top < x) I l))) p))
+  module _ (n : (eqb b top || eqb c top) ≡ false) where
+    differ : (b ≡ top → ⊥) × (c ≡ top → ⊥)
+    differ = let d = neither (eqb b top) (eqb c top) n in (eqb-false b top (d .0), eqb-false c top (d .1))
 
-    pub size-finite : b ≤ top → c ≤ top → nearestRoot (sumOfSquares (ofBits binary64 b) (ofBits binary64 c)) ≡ normOf a
-    size-finite h k =
-        let x = is-finite (a .re) (subst (λ (z : ℕ). z < top) R (lt-of-le-ne h n)) in
-        let y = is-finite (a .im) (subst (λ (z : ℕ). z < top) I (lt-of-le-ne k m)) in
-        ap₂ (λ (u v : ℕ). nearestRoot (u * u + v * v)) (ap (λ (z : ℕ). inUnits (ofBits binary64 z)) R ∙ magnitude-units (a .re) r x) (ap (λ (z : ℕ). inUnits (ofBits binary64 z)) I ∙ magnitude-units (a .im) i y) ∙ sym (norm-finite a x y)
+    pub size-nan : (ltb top b || ltb top c) ≡ true → nan ≡ normOf a
+    size-nan p =
+        sym
+        (norm-nan a (not-infinite (a .re) (λ e. differ .0 (R ∙ e))) (not-infinite (a .im) (λ e. differ .1 (I ∙ e)))
+        (⊎-elim (λ l. inl (is-nan (a .re) r (subst (λ (x : ℕ). top < x) R (ltb-true top b l)))) (λ l. inr (is-nan (a .im) i (subst (λ (x : ℕ). top < x) I (ltb-true top c l)))) (either (ltb top b) (ltb top c) p)))
+
+    module _ (m : (ltb top b || ltb top c) ≡ false) where
+      pub patterns-below : (b < top) × (c < top)
+      patterns-below = let l = neither (ltb top b) (ltb top c) m in (lt-of-le-ne (ltb-false top b (l .0)) (differ .0), lt-of-le-ne (ltb-false top c (l .1)) (differ .1))
+
+      pub size-finite : nearestRoot (sumOfSquares (ofBits binary64 b) (ofBits binary64 c)) ≡ normOf a
+      size-finite =
+          let x = is-finite (a .re) (subst (λ (z : ℕ). z < top) R (patterns-below .0)) in
+          let y = is-finite (a .im) (subst (λ (z : ℕ). z < top) I (patterns-below .1)) in
+          ap₂ (λ (u v : ℕ). nearestRoot (u * u + v * v)) (ap (λ (z : ℕ). inUnits (ofBits binary64 z)) R ∙ magnitude-units (a .re) r x) (ap (λ (z : ℕ). inUnits (ofBits binary64 z)) I ∙ magnitude-units (a .im) i y) ∙ sym (norm-finite a x y)

@@ -276,12 +276,10 @@ pub fn norm(a: Complex) -> f64
     let x = magnitude(a.re);
     let y = magnitude(a.im);
     if x == top || y == top {
-        return f64::from_bits(top);
-    }
-    if x > top || y > top {
-        return 0.0 / 0.0;
-    }
-    if x < y {
+        f64::from_bits(top)
+    } else if x > top || y > top {
+        0.0 / 0.0
+    } else if x < y {
         finite_norm(y, x)
     } else {
         finite_norm(x, y)
