@@ -1,8 +1,8 @@
 -- A number cut to its whole quotient by d, and whether anything is left over. Nothing here is about floats. Assumes nothing.
-use mathlib.Core.Path.{_≡_, refl, sym, ap, _∙_, subst}
+use mathlib.Core.Path.{_≡_, sym, ap, _∙_}
 use mathlib.Core.Bool.{Bool, true, false, _||_}
 use Prim.Native.Nat.{ℕ, zero, suc, _+_, _*_, _/_, _%_, _<_}
-use native.Mathlib.Nat.{mul-comm, mul-pos, zero-mul, zero-add, add-comm, add-zero, div-one, mod-one, div-div-eq-div-mul, mul-div-mul-right, mul-add-div-right, add-mul-mod-self-left, mul-div-cancel, mul-mod-left, zero-lt-suc}
+use native.Mathlib.Nat.{mul-comm, mul-pos, zero-mul, add-comm, add-zero, div-one, mod-one, div-div-eq-div-mul, mul-div-mul-right, mul-add-div-right, add-mul-mod-self-left, mul-div-cancel, mul-mod-left, zero-lt-suc}
 use lib.Arith.{mod-mul}
 use native.Mathlib.Omega.{arith}
 use lib.Dec.{ltb, lt→ltb}

@@ -1,5 +1,5 @@
 -- The binary64 value nearest to a square root, ties to even (IEEE 754-2019, 4.3.1), found by comparing whole numbers. Definition only.
--- That it is `Nearest`, for every q, is `nearest-root` of `HalfRoot.antt`.
+-- That it is `Nearest`, for every q, is `nearest-root` of `NearestRootLaws.antt`.
 use mathlib.Core.Bool.{false}
 use Prim.Native.Nat.{ℕ, suc, _+_, _-_, _*_, _/_, _^_, compare}
 use lib.Ieee.{Float, binary64, size, nearest, units}

@@ -1,25 +1,24 @@
 -- What `finite_norm` does: four times the sum of two squares in units of the larger one's last digit squared, cut to a whole number, and half of its root; and why, from 27 exponents apart on, the larger part is the answer.
 -- Both are nearest, and so is `nearestRoot`, so they are equal. Assumes nothing.
-use mathlib.Core.Path.{_≡_, refl, sym, ap, ap₂, _∙_, subst}
+use mathlib.Core.Path.{_≡_, sym, ap, ap₂, _∙_, subst}
 use mathlib.Core.Bool.{Bool, false, _||_}
-use Prim.Native.Nat.{ℕ, zero, suc, _+_, _-_, _*_, _/_, _%_, _^_, _≤_, _<_, zero-le}
-use native.Mathlib.Nat.{le-trans, le-of-eq, le-of-lt, lt-of-le-of-lt, lt-of-lt-of-le, one-mul, mul-pos, mul-le-mul, mul-le-mul-left, le-add-right, div-lt-iff-lt-mul, div-le-self, le-of-suc-le-suc, lt-of-not-le}
+use Prim.Native.Nat.{ℕ, _+_, _-_, _*_, _/_, _%_, _^_, _≤_, _<_, zero-le}
+use native.Mathlib.Nat.{le-trans, le-of-eq, lt-of-le-of-lt, lt-of-lt-of-le, mul-pos, mul-le-mul, mul-le-mul-left, le-add-right, div-lt-iff-lt-mul, div-le-self, le-of-suc-le-suc, lt-of-not-le}
 use native.Mathlib.Omega.{arith}
 use lib.Dec.{ltb, lit<}
 use lib.Pow.{pow-pos, pow-add, pow-mono}
 use lib.Ieee.{Float, binary64, units, ofBits}
 use lib.Ieee.Digits.{back}
-use Rattle.root.specs.declared.Wide.{Wide}
-use Rattle.root.specs.Units.{inUnits}
 use Rattle.root.specs.Whole.{RootRest, square-lt}
-use Rattle.root.specs.NearestHalf.{nearestHalf, half-even}
+use Rattle.root.specs.NearestHalf.{half-even}
 use Rattle.root.specs.Nearest.{Nearest}
 use Rattle.root.specs.NearestRoot.{nearestRoot}
 use Rattle.root.specs.Norm.{sumOfSquares}
 use Rattle.root.specs.Parts.{four-pow, four-square, four-pos}
 use Rattle.root.specs.FromUnits.{Decodes, decoded-value, decoded-units}
 use Rattle.root.specs.Cut.{Cut, cut-whole, cut-again, cut-plus, cut-scaled}
-use Rattle.root.specs.HalfRoot.{halfRoot, half-nearest, cut-nearest, nearest-root}
+use Rattle.root.specs.HalfRoot.{halfRoot, half-nearest, cut-nearest}
+use Rattle.root.specs.NearestRootLaws.{nearest-root}
 use Rattle.root.specs.Theorems.{only-nearest}
 
 -- the square of twice a significand

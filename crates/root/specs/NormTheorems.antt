@@ -2,7 +2,7 @@
 -- `Norm.antt` has the other cases. Assumes nothing.
 use mathlib.Core.Path.{_≡_, refl, sym, ap, _∙_, subst}
 use mathlib.Core.Bool.{Bool, false}
-use Prim.Native.Nat.{ℕ, zero, suc, _+_, _-_, _*_, _^_, _≤_}
+use Prim.Native.Nat.{ℕ, _-_, _*_, _^_, _≤_}
 use native.Mathlib.Nat.{add-zero}
 use lib.Dec.{T}
 use lib.IntN.{ℤ, pos}
@@ -15,7 +15,7 @@ use Rattle.root.specs.Root.{rootOf}
 use Rattle.root.specs.Nearest.{Candidate, Nearest}
 use Rattle.root.specs.NearestLaws.{exact-nearest, overflow}
 use Rattle.root.specs.NearestRoot.{nearestRoot}
-use Rattle.root.specs.HalfRoot.{nearest-root}
+use Rattle.root.specs.NearestRootLaws.{nearest-root}
 use Rattle.root.specs.Norm.{sumOfSquares, sizeOf, normOf, norm-finite}
 use Rattle.root.specs.Theorems.{only-nearest, root-nearest}
 

@@ -2,13 +2,12 @@
 use mathlib.Core.Path.{_≡_, sym, ap, ap₂, _∙_, subst}
 use mathlib.Core.Bool.{Bool}
 use Prim.Native.Nat.{ℕ, _+_, _-_, _*_, _/_, _%_, _^_, _≤_, _<_}
-use native.Mathlib.Nat.{one-mul, add-mul, mul-assoc, mul-comm, add-comm, add-mul-mod-self-left, add-mul-div-right, div-lt-iff-lt-mul, lt-of-le-of-lt, lt-of-lt-of-le, mul-le-mul, mul-lt-mul-of-pos-right, mod-lt, div-add-mod'}
+use native.Mathlib.Nat.{one-mul, add-mul, mul-assoc, mul-comm, add-comm, add-mul-mod-self-left, add-mul-div-right, div-lt-iff-lt-mul, lt-of-le-of-lt, mul-le-mul, mod-lt, div-add-mod'}
 use native.Mathlib.Omega.{arith}
 use lib.Arith.{digits-lt}
 use lib.Dec.{lit<}
-use lib.Pow.{pow-pos, pow-add, shl-exact}
+use lib.Pow.{pow-add, shl-exact}
 use Rattle.root.specs.Parts.{four-pow, four-pos}
-use Rattle.root.specs.Whole.{square-lt, side-lt}
 use Rattle.root.specs.declared.Wide.{Wide}
 
 -- the number that the two words stand for

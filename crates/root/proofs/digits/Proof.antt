@@ -1,6 +1,6 @@
 -- `root::digits` meets its contract. After j turns the loop stands as `After` has it (`specs/Digits.antt`). Assumes nothing.
 use mathlib.Core.Logic.{⊎-elim, inl, inr}
-use Prim.Native.Nat.{ℕ, _-_, _+_, _*_, _/_, _^_, _≤_}
+use Prim.Native.Nat.{_-_, _+_, _*_, _/_, _^_, _≤_}
 use native.Mathlib.Nat.{le-antisymm}
 use native.Mathlib.Omega.{arith}
 use Rattle.root.specs.Digits.{After, Digit, before-turns, root-lt, digit-le, turn}

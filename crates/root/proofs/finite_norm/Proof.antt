@@ -7,7 +7,7 @@ use native.Mathlib.Nat.{le-of-lt}
 use native.Mathlib.Omega.{arith}
 use lib.Dec.{ltb}
 use Rattle.root.specs.Units.{pattern-real}
-use Rattle.root.specs.Wide.{Holds, upper-lt, upper-ge}
+use Rattle.root.specs.Wide.{upper-lt, upper-ge}
 use Rattle.root.specs.HalfRoot.{halfRoot}
 use Rattle.root.specs.NormMethod.{exponents-ordered, exponent-room, sum-low, sum-high, far, near, near-longer}
 use Rattle.root.proofs.finite_norm.Statement.{statement}

@@ -1,10 +1,9 @@
 -- `root::quotient` meets its contract (`specs/Wide.antt`). Assumes nothing.
 use borrow.Author.Needs.{needs}
-use mathlib.Core.Path.{refl, sym, ap, _∙_}
-use mathlib.Core.Bool.{Bool, _||_}
+use mathlib.Core.Path.{refl, ap}
 use native.Mathlib.Omega.{arith}
 use lib.Dec.{ltb}
-use Rattle.root.specs.Wide.{Holds, divisor-pos, quotient-low, quotient-whole, quotient-left}
+use Rattle.root.specs.Wide.{divisor-pos, quotient-low, quotient-whole, quotient-left}
 use Rattle.root.proofs.quotient.Statement.{statement}
 use Rattle.root.proofs.quotient.Tie as tie
 

@@ -5,7 +5,7 @@ use mathlib.Core.Bool.{Bool, _||_}
 use Prim.Native.Nat.{ℕ, _+_, _/_, _%_, _^_}
 use native.Mathlib.Nat.{div-le-self, lt-of-le-of-lt, le-trans, le-of-eq}
 use lib.Dec.{ltb}
-use Rattle.root.specs.Wide.{Holds, upper-lt}
+use Rattle.root.specs.Wide.{upper-lt}
 use Rattle.root.specs.NormMethod.{square-below}
 use Rattle.root.proofs.scaled_sum.Statement.{statement}
 use Rattle.root.proofs.scaled_sum.Tie as tie

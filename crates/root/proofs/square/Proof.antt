@@ -2,7 +2,7 @@
 use borrow.Author.Needs.{needs}
 use mathlib.Core.Path.{refl}
 use native.Mathlib.Omega.{arith}
-use Rattle.root.specs.Wide.{Products, products, square-whole}
+use Rattle.root.specs.Wide.{products, square-whole}
 use Rattle.root.proofs.square.Statement.{statement}
 use Rattle.root.proofs.square.Tie as tie
 
