@@ -125,9 +125,6 @@ pattern-kept : (m j : ℕ) → m < 2 ^ 53 → (0 < j → 2 ^ 52 ≤ m) → patte
 unfolding pattern
 pattern-kept m j h k = ap (λ (x : ℕ). x * 2 ^ 52 + m * 2 ^ j / 2 ^ x) (dropped j k) ∙ ap (λ (x : ℕ). j * 2 ^ 52 + x) (mul-div-cancel m (pow-pos j))
   where
-    high : size (m * 2 ^ j) ≤ 53 + j
-    high = size-le (m * 2 ^ j) (53 + j) (shl-lt 53 j h)
-
     dropped : (i : ℕ) → (0 < i → 2 ^ 52 ≤ m) → size (m * 2 ^ i) - 53 ≡ i
     dropped zero k = let l : size (m * 2 ^ 0) ≤ 53 + 0 = size-le (m * 2 ^ 0) (53 + 0) (shl-lt 53 0 h) in omega (arith, l)
     dropped (suc i) k =

@@ -114,7 +114,7 @@ pub fn root(x: f64) -> f64
 
 // ---- the size of a complex number
 
-// A whole number of up to 108 binary digits, hi * 2^54 + lo, and whether anything was cut off below it.
+// A whole number, hi * 2^54 + lo with lo below 2^54, and whether anything was cut off below it.
 struct Wide {
     hi: u64,
     lo: u64,
@@ -132,7 +132,7 @@ fn square(m: u64) -> Wide
     let lo = b * b + c % 0x400_0000 * 0x1000_0000;
     let hi = a * a + (c >> 26) + (lo >> 54);
     Wide {
-        hi: hi,
+        hi,
         lo: lo % 0x40_0000_0000_0000,
         cut: false,
     }
@@ -149,11 +149,7 @@ fn quotient(n: Wide, k: u64) -> Wide
     let hi = n.hi / t;
     let lo = n.hi % t * u + n.lo / t;
     let cut = n.cut || n.lo % t > 0;
-    Wide {
-        hi: hi,
-        lo: lo,
-        cut: cut,
-    }
+    Wide { hi, lo, cut }
 }
 
 // m + n, where nothing was cut off below m.
