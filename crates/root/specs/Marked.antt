@@ -4,10 +4,10 @@ use mathlib.Core.Bool.{Bool, true, _&&_}
 use mathlib.Core.List.{List, [], _∷_}
 use Prim.Native.Nat.{ℕ}
 use lib.Dec.{eqb}
-use lib.Ieee.{binary64, ofBits, toBits}
+use lib.Ieee.{binary64, isNan, ofBits, toBits}
 use Rattle.root.specs.Units.{inUnits}
 use Rattle.root.specs.NearestRoot.{nearestRoot}
-use Rattle.root.specs.Norm.{sizeOf}
+use Rattle.root.specs.Norm.{normOf}
 
 pub record Row : Type 0 where
   pub re : ℕ
@@ -15,7 +15,7 @@ pub record Row : Type 0 where
   pub size : ℕ
 
 abbrev pub holds : Row → Bool
-holds r = eqb (toBits binary64 (sizeOf (ofBits binary64 (r .re)) (ofBits binary64 (r .im)))) (r .size)
+holds r = eqb (toBits binary64 (normOf (record { re = ofBits binary64 (r .re); im = ofBits binary64 (r .im) }))) (r .size)
 
 abbrev pub allHold : List Row → Bool
 allHold [] = true
@@ -45,5 +45,5 @@ table =
     ∷ []
 
 pub marked : allHold table ≡ true
-unfolding table ofBits toBits inUnits nearestRoot sizeOf
+unfolding table isNan ofBits toBits inUnits nearestRoot normOf
 marked = refl

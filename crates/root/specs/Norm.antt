@@ -1,82 +1,67 @@
 -- The size of a complex number (document 02, W5): the value nearest to the exact root of the sum of its parts' squares, and its special values.
 -- That it is nearest is `norm-nearest` of `Theorems.antt`. Assumes nothing.
-use mathlib.Core.Path.{_≡_, refl}
-use mathlib.Core.Bool.{Bool, true, false, not}
-use mathlib.Core.Logic.{_⊎_, inl, inr}
+use mathlib.Core.Path.{_≡_, refl, ap, ap₂, _∙_}
+use mathlib.Core.Bool.{Bool, true, false, not, _||_, cond}
 use Prim.Native.Nat.{ℕ, _+_, _*_}
 use lib.Dec.{T}
 use lib.Ieee.{Float, nan, inf, fin, isNan}
+use lib.Ieee.Bits.{is-true, is-false}
 use lib.Ieee.Scale.{finite}
 use Rattle.complex.specs.declared.Complex.{Complex}
 use Rattle.root.specs.Units.{inUnits}
 use Rattle.root.specs.NearestRoot.{nearestRoot}
 
--- the squares of two finite values, added, in squares of a unit: exact
-abbrev pub sumOfSquares : Float → Float → ℕ
-sumOfSquares x y = inUnits x * inUnits x + inUnits y * inUnits y
-
--- An infinite part gives the infinity, also beside a NaN; else a NaN part gives NaN.
-unfoldable pub sizeOf : Float → Float → Float
-sizeOf (inf s) y = inf false
-sizeOf nan (inf t) = inf false
-sizeOf nan nan = nan
-sizeOf nan (fin t n d) = nan
-sizeOf (fin s m e) (inf t) = inf false
-sizeOf (fin s m e) nan = nan
-sizeOf (fin s m e) (fin t n d) = nearestRoot (sumOfSquares (fin s m e) (fin t n d))
-
-unfoldable pub normOf : Complex → Float
-normOf a = sizeOf (a .re) (a .im)
-
--- ---- which case it is
-
+-- an infinity, of either sign
 abbrev pub infinite : Float → Bool
 infinite nan = false
 infinite (inf s) = true
 infinite (fin s m e) = false
 
-infinite-part : (x y : Float) → T (infinite x) ⊎ T (infinite y) → sizeOf x y ≡ inf false
-unfolding sizeOf
-infinite-part (inf s) y p = refl
-infinite-part nan (inf t) p = refl
-infinite-part (fin s m e) (inf t) p = refl
-infinite-part nan nan (inl p) = absurd p
-infinite-part nan nan (inr p) = absurd p
-infinite-part nan (fin t n d) (inl p) = absurd p
-infinite-part nan (fin t n d) (inr p) = absurd p
-infinite-part (fin s m e) nan (inl p) = absurd p
-infinite-part (fin s m e) nan (inr p) = absurd p
-infinite-part (fin s m e) (fin t n d) (inl p) = absurd p
-infinite-part (fin s m e) (fin t n d) (inr p) = absurd p
+-- the squares of two finite values, added, in squares of a unit: exact
+abbrev pub sumOfSquares : Float → Float → ℕ
+sumOfSquares x y = inUnits x * inUnits x + inUnits y * inUnits y
 
-nan-part : (x y : Float) → T (not (infinite x)) → T (not (infinite y)) → T (isNan x) ⊎ T (isNan y) → sizeOf x y ≡ nan
-unfolding sizeOf isNan
-nan-part (inf s) y h k p = absurd h
-nan-part nan (inf t) h k p = absurd k
-nan-part nan nan h k p = refl
-nan-part nan (fin t n d) h k p = refl
-nan-part (fin s m e) (inf t) h k p = absurd k
-nan-part (fin s m e) nan h k p = refl
-nan-part (fin s m e) (fin t n d) h k (inl p) = absurd p
-nan-part (fin s m e) (fin t n d) h k (inr p) = absurd p
+-- an infinite part gives the infinity, also beside a NaN; else a NaN part gives NaN
+unfoldable pub normOf : Complex → Float
+normOf a = cond (infinite (a .re) || infinite (a .im)) (inf false) (cond (isNan (a .re) || isNan (a .im)) nan (nearestRoot (sumOfSquares (a .re) (a .im))))
 
-finite-parts : (x y : Float) → T (finite x) → T (finite y) → sizeOf x y ≡ nearestRoot (sumOfSquares x y)
-unfolding sizeOf
-finite-parts (fin s m e) (fin t n d) h k = refl
-finite-parts nan y h k = absurd h
-finite-parts (inf s) y h k = absurd h
-finite-parts (fin s m e) nan h k = absurd k
-finite-parts (fin s m e) (inf t) h k = absurd k
+-- ---- which case it is
+
+neither : (x : Float) → T (finite x) → (infinite x ≡ false) × (isNan x ≡ false)
+unfolding isNan
+neither nan h = absurd h
+neither (inf s) h = absurd h
+neither (fin s m e) h = (refl, refl)
 
 module _ (a : Complex) where
-  pub norm-infinite : T (infinite (a .re)) ⊎ T (infinite (a .im)) → normOf a ≡ inf false
-  unfolding normOf
-  norm-infinite = infinite-part (a .re) (a .im)
+  abbrev someInfinite : Bool
+  someInfinite = infinite (a .re) || infinite (a .im)
 
-  pub norm-nan : T (not (infinite (a .re))) → T (not (infinite (a .im))) → T (isNan (a .re)) ⊎ T (isNan (a .im)) → normOf a ≡ nan
+  abbrev someNan : Bool
+  someNan = isNan (a .re) || isNan (a .im)
+
+  abbrev rounded : Float
+  rounded = nearestRoot (sumOfSquares (a .re) (a .im))
+
+  pub infinite-part : someInfinite ≡ true → normOf a ≡ inf false
   unfolding normOf
-  norm-nan = nan-part (a .re) (a .im)
+  infinite-part e = ap (λ (b : Bool). cond b (inf false) (cond someNan nan rounded)) e
+
+  no-infinite : someInfinite ≡ false → normOf a ≡ cond someNan nan rounded
+  unfolding normOf
+  no-infinite e = ap (λ (b : Bool). cond b (inf false) (cond someNan nan rounded)) e
+
+  pub nan-part : someInfinite ≡ false → someNan ≡ true → normOf a ≡ nan
+  nan-part e f = no-infinite e ∙ ap (λ (b : Bool). cond b nan rounded) f
+
+  pub finite-parts : someInfinite ≡ false → someNan ≡ false → normOf a ≡ rounded
+  finite-parts e f = no-infinite e ∙ ap (λ (b : Bool). cond b nan rounded) f
+
+  pub norm-infinite : T (infinite (a .re) || infinite (a .im)) → normOf a ≡ inf false
+  norm-infinite h = infinite-part (is-true someInfinite h)
+
+  pub norm-nan : T (not (infinite (a .re) || infinite (a .im))) → T (isNan (a .re) || isNan (a .im)) → normOf a ≡ nan
+  norm-nan h k = nan-part (is-false someInfinite h) (is-true someNan k)
 
   pub norm-finite : T (finite (a .re)) → T (finite (a .im)) → normOf a ≡ nearestRoot (sumOfSquares (a .re) (a .im))
-  unfolding normOf
-  norm-finite = finite-parts (a .re) (a .im)
+  norm-finite h k = let x = neither (a .re) h in let y = neither (a .im) k in finite-parts (ap₂ (λ (b c : Bool). b || c) (x .0) (y .0)) (ap₂ (λ (b c : Bool). b || c) (x .1) (y .1))

@@ -6,7 +6,7 @@ use Prim.Native.Nat.{ℕ, _-_, _*_, _^_, _≤_}
 use native.Mathlib.Nat.{add-zero}
 use lib.Dec.{T}
 use lib.IntN.{ℤ, pos}
-use lib.Ieee.{Float, inf, fin, binary64, fits}
+use lib.Ieee.{Float, inf, fin, binary64, fits, isNan}
 use lib.Ieee.Positive.{positive}
 use lib.Ieee.Scale.{finite}
 use Rattle.complex.specs.declared.Complex.{Complex}
@@ -16,7 +16,7 @@ use Rattle.root.specs.Nearest.{Candidate, Nearest}
 use Rattle.root.specs.NearestLaws.{exact-nearest, overflow}
 use Rattle.root.specs.NearestRoot.{nearestRoot}
 use Rattle.root.specs.NearestRootLaws.{nearest-root}
-use Rattle.root.specs.Norm.{sumOfSquares, sizeOf, normOf, norm-finite}
+use Rattle.root.specs.Norm.{sumOfSquares, normOf, norm-finite}
 use Rattle.root.specs.Theorems.{only-nearest, root-nearest}
 
 -- the root is `nearestRoot` of an exact square that is an f64
@@ -44,7 +44,7 @@ module _ (a : Complex) (re : T (finite (a .re))) (im : T (finite (a .im))) where
 
 -- two zeros, of any signs
 pub norm-zero : (s t : Bool) → normOf (record { re = fin s 0 (pos 0); im = fin t 0 (pos 0) }) ≡ fin false 0 (pos 0)
-unfolding normOf sizeOf inUnits nearestRoot
+unfolding normOf isNan inUnits nearestRoot
 norm-zero s t = refl
 
 -- a number on the real axis has the size of its real part

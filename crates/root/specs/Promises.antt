@@ -1,7 +1,6 @@
 -- What is promised of the root and of the size, one field each, and the proofs. docs/PROMISES.md names these fields.
 use mathlib.Core.Path.{_≡_}
-use mathlib.Core.Bool.{Bool, true, false, not}
-use mathlib.Core.Logic.{_⊎_}
+use mathlib.Core.Bool.{Bool, true, false, not, _||_}
 use Prim.Native.Nat.{ℕ, _-_, _*_, _^_, _≤_}
 use lib.Dec.{T}
 use lib.IntN.{ℤ, pos}
@@ -39,8 +38,8 @@ pub record Promised : Type 0 where
   pub norm-root : (a : Complex) → T (finite (a .re)) → T (finite (a .im)) → (x : Float) → T (fits binary64 x) → T (positive x) → sumOfSquares (a .re) (a .im) ≡ inUnits x * 2 ^ 1074 → normOf a ≡ rootOf x
   pub root-instance : (x : Float) → T (fits binary64 x) → T (positive x) → rootOf x ≡ nearestRoot (inUnits x * 2 ^ 1074)
   -- an infinite part, else a NaN part; two zeros; a number on the real axis
-  pub norm-infinite : (a : Complex) → T (infinite (a .re)) ⊎ T (infinite (a .im)) → normOf a ≡ inf false
-  pub norm-nan : (a : Complex) → T (not (infinite (a .re))) → T (not (infinite (a .im))) → T (isNan (a .re)) ⊎ T (isNan (a .im)) → normOf a ≡ nan
+  pub norm-infinite : (a : Complex) → T (infinite (a .re) || infinite (a .im)) → normOf a ≡ inf false
+  pub norm-nan : (a : Complex) → T (not (infinite (a .re) || infinite (a .im))) → T (isNan (a .re) || isNan (a .im)) → normOf a ≡ nan
   pub norm-zero : (s t : Bool) → normOf (record { re = fin s 0 (pos 0); im = fin t 0 (pos 0) }) ≡ fin false 0 (pos 0)
   pub norm-of-real : (s t : Bool) (m : ℕ) (e : ℤ) → T (fits binary64 (fin s m e)) → normOf (record { re = fin s m e; im = fin t 0 (pos 0) }) ≡ fin false m e
   -- a table of sizes by their bits

@@ -1,4 +1,4 @@
--- `root::norm` meets its contract: the parts' patterns without signs tell which case of `sizeOf` it is (`specs/Magnitude.antt`). Assumes nothing.
+-- `root::norm` meets its contract: the parts' patterns without signs tell which case of `normOf` it is (`specs/Magnitude.antt`). Assumes nothing.
 use borrow.Author.Needs.{needs}
 use borrow.Author.Tests.{eq-eqb, ne-eqb, lt-ltb, le-ltb}
 use mathlib.Core.Path.{_≡_, sym, ap, _∙_}
