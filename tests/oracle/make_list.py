@@ -19,7 +19,7 @@ oracle's walks are left out altogether.
          36   random complex gates, unitary, general and sparse
          40   gates of extreme magnitudes: 1e150, 1e-160, 1e300, subnormal, mixed
          18   amplitudes near 1e-80, and near 1e150, 9 of each: rotations from overlaps whose squares are out of range
-          1   the example of a small overlap that docs/DIFFERENCES.md has
+          7   overlaps: the example of docs/DIFFERENCES.md, sizes that are ties, sizes that digits far down decide
          16   amplitudes that become infinite or NaN: 7
          38   truncation at D 1 to 4, values beside the resolution
           8   searched for: a QR column whose third pass shows, environments with infinities beside zeros
@@ -34,8 +34,9 @@ oracle's walks are left out altogether.
          12   boundary sizes: n 1, 32, 64, D 1 to 11, store and work just long enough or too short
          24   one qubit measured, reset and projected again and again
          32   epsilon and clamp, 0 and above
-        530   with 2,677 records: 2,331 accepted, 346 refused
+        536   with 2,695 records: 2,349 accepted, 346 refused
 """
+import math
 import pathlib
 import random
 import re
@@ -46,6 +47,9 @@ import tempfile
 from collections import Counter
 
 HERE = pathlib.Path(__file__).resolve().parent
+sys.path.insert(0, str(HERE.parent))
+import size_compare
+
 REPLAY = HERE.parent.parent / "crates" / "replay"
 SEED = 1
 INF, NAN = float("inf"), float("nan")
@@ -259,11 +263,17 @@ def squares_out_of_range(r):
             add(category, f"{k}: n {n}", records)
 
 
-def example():
-    """That of docs/DIFFERENCES.md: the overlap is (1.5 + 2i)e-162, the weight 0.49984379881287098."""
-    column = [(1e-80, 0.0), (1.5e-82, 2e-82), (0.0, 0.0), (1e-80, 0.0)]
-    g = [column[k // 4] if k % 4 == 0 else (0.0, 0.0) for k in range(16)]
-    add("the example of a small overlap", "", [start(2, 2), gate(0, 1, g), project(0, 1)], ["1 0", "2 0", "4 0 3FDFFD70D8409EAA"])
+def overlaps():
+    """A fresh pair's two columns with an overlap that is given."""
+    gates = lambda *column: [column[k // 4] if k % 4 == 0 else (0.0, 0.0) for k in range(16)]
+    # the example of docs/DIFFERENCES.md: the weight is 0.49984379881287098
+    g = gates((1e-80, 0.0), (1.5e-82, 2e-82), (0.0, 0.0), (1e-80, 0.0))
+    add("overlaps", "(1.5 + 2i)e-162", [start(2, 2), gate(0, 1, g), project(0, 1)], ["1 0", "2 0", "4 0 3FDFFD70D8409EAA"])
+    for x, y, size in size_compare.TIES + size_compare.ABOVE:
+        parts = struct.unpack("<2d", struct.pack("<2Q", x, y))
+        scale = 0.5 ** math.frexp(parts[0])[1]
+        g = gates((1.0, 0.0), (scale * parts[0], scale * parts[1]), (0.0, 0.0), (0.75, 0.0))
+        add("overlaps", f"size {size:016X}, scaled", [start(2, 2), gate(0, 1, g), project(0, 1)])
 
 
 def not_a_number(r):
@@ -470,7 +480,7 @@ def make_streams():
     random_gates(draw("random"))
     magnitudes(draw("magnitudes"))
     squares_out_of_range(draw("squares out of range"))
-    example()
+    overlaps()
     not_a_number(draw("not a number"))
     truncations(draw("truncations"))
     resolutions(draw("resolutions"))

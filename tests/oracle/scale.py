@@ -24,7 +24,7 @@ TOP = pathlib.Path(__file__).resolve().parent.parent.parent
 sys.path.insert(0, str(TOP / "tests"))
 import stored
 
-FIXED = {"run cases", "refusals 1 and 2", "bad codes, kinds and lengths", "searched for", "the example of a small overlap"}
+FIXED = {"run cases", "refusals 1 and 2", "bad codes, kinds and lengths", "searched for", "overlaps"}
 
 
 def run(words, data):
