@@ -31,6 +31,7 @@ CASES = [
     *ABOVE,
     (LARGEST, 0x7E46A09E667F3BCC, LARGEST),
     (LARGEST, 0x7E46A09E667F3BCD, TOP),
+    (0x7FE6A09E667F3BCE, 0x7FE6A09E667F3BCE, TOP),  # where the next pattern would be a NaN's
     (2, 2, 3),
     (0xC008 << 48, 0, 0x4008 << 48),
 ]
