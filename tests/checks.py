@@ -175,7 +175,7 @@ FORMS = [
     ("outcomes", "project_slot", LENT_TO_WRITE),
     ("outcomes", "reset_slot", LENT_TO_WRITE),
     ("fresh", "fresh_store", LENT_TO_WRITE),
-    ("root", "from_parts", r"f64::from_bits"),
+    ("root", "from_units", r"f64::from_bits"),
     ("gates", "swap_gate_qubits", rf"gate: {GATE}\) -> {GATE}"),
     ("cuts", "decompose_pair", LENT_TO_READ),
     ("moves", "step_right", LENT_TO_READ),

@@ -10,7 +10,6 @@ use lib.Dec.{ltb, lit<}
 use lib.Ieee.{Float, binary64, units}
 use Rattle.root.specs.Units.{Significand, inUnits, units-short}
 use Rattle.root.specs.Whole.{IsRoot, RootRest, wholeRoot, whole-root, root-of-rest, rest-of-root, only-root, side-lt}
-use Rattle.root.specs.Digits.{fed}
 use Rattle.root.specs.NearestHalf.{nearestHalf, half-few, half-least, nearest-above, nearest-below}
 use Rattle.root.specs.Nearest.{Even, Nearest}
 use Rattle.root.specs.NearestLaws.{overflow}
@@ -36,7 +35,7 @@ module _ (q g w r : ℕ) (R : RootRest (4 * q / (2 ^ g * 2 ^ g)) w r) (long : 0 
 
   -- where h is even, so is the last digit of the pattern
   even-value : h * G < 2 ^ 2098 → h % 2 ≡ 0 → Even (units binary64 false h g)
-  even-value f e = ap (λ (b : ℕ). b % 2) (units-bits h g digits f) ∙ last g h e
+  even-value f e = ap (λ (b : ℕ). b % 2) (units-bits h g f digits) ∙ last g h e
     where
       last : (g h : ℕ) → h % 2 ≡ 0 → (g * 2 ^ 52 + h) % 2 ≡ 0
       last g h e = omega arith
@@ -56,20 +55,20 @@ module _ (q g w r : ℕ) (R : RootRest (4 * q / (2 ^ g * 2 ^ g)) w r) (long : 0 
 
   pub half-nearest : Nearest (units binary64 false h g) q
   half-nearest = elim (decLe (2 ^ 2098) (h * G)) [
-    | yes o ↦ subst (λ (v : Float). Nearest v q) (sym (units-infinite h g digits o)) (overflow q (past o))
+    | yes o ↦ subst (λ (v : Float). Nearest v q) (sym (units-infinite h g o)) (overflow q (past o))
     | no n ↦
         let f = lt-of-not-le n in
-        let c = units-count h g digits f in
+        let c = units-count h g f in
         record {
-          value = units-candidate h g digits f;
+          value = units-candidate h g f (digits .0);
           above = λ y C l.
               let k = units-short y (C .held) (C .sign) in
               let b = nearest-above (4 * q) w r g R long (k .m) (k .j) (k .few) (subst (λ (x : ℕ). h * G < x) (k .is) (subst (λ (x : ℕ). x < inUnits y) c l)) in
-              rw (c, k .is) (b .0, λ e. even-value f (b .1 e .even));
+              rw (c, k .is) (b .0, λ e. even-value f (b .1 e));
           below = λ y C l.
               let k = units-short y (C .held) (C .sign) in
               let b = nearest-below (4 * q) w r g R long (k .m) (k .j) (k .few) (subst (λ (x : ℕ). x < h * G) (k .is) (subst (λ (x : ℕ). inUnits y < x) c l)) in
-              rw (c, k .is) (b .0, λ e. even-value f (b .1 e .even));
+              rw (c, k .is) (b .0, λ e. even-value f (b .1 e));
         }
   ]
 
@@ -86,26 +85,20 @@ module _ (q g N : ℕ) (cut : Bool) (C : Cut (4 * q) (2 ^ g * 2 ^ g) N cut) (hig
   unfolding halfRoot
   cut-nearest = rw (C .left) (half-nearest q g w (N - w * w) (subst (λ (x : ℕ). RootRest x w (N - w * w)) (C .value) (rest-of-root N w is-root)) (λ p. le-of-suc-le-suc (side-lt (2 ^ 53) (suc w) (lt-of-le-of-lt (low p) (is-root .high)))) (side-lt w (2 ^ 54) (lt-of-le-of-lt (is-root .low) high)))
 
--- the digits of hi, and then those of lo, are found in two runs of 27
-module _ (hi lo : ℕ) (H : hi < 2 ^ 54) (L : lo < 2 ^ 54) (p s : ℕ) (P : RootRest (fed 27 (hi * 2 ^ 10 % 2 ^ 64) (0 * 0 + 0)) p s) where
-  word : (n d : ℕ) → d < 2 ^ 54 → fed 27 (d * 2 ^ 10 % 2 ^ 64) n ≡ n * 2 ^ 54 + d
-  word n d h = omega arith
-
+-- the digits of hi, and then those of lo, are found in two runs
+module _ (hi lo : ℕ) (H : hi < 2 ^ 54) (L : lo < 2 ^ 54) (p s : ℕ) (P : RootRest ((0 * 0 + 0) * 2 ^ 54 + hi) p s) where
   first : RootRest hi p s
-  first = subst (λ (x : ℕ). RootRest x p s) (word (0 * 0 + 0) hi H ∙ zero-add hi) P
+  first = subst (λ (x : ℕ). RootRest x p s) (zero-add hi) P
 
-  pub first-room : (suc p * 2 ^ 27 ≤ 2 ^ 54) × (s ≤ 2 * p)
-  first-room = (fewer (side-lt p (2 ^ 27) (lt-of-le-of-lt (root-of-rest hi p s first .low) H)), first .rest)
-    where
-      fewer : p < 2 ^ 27 → suc p * 2 ^ 27 ≤ 2 ^ 54
-      fewer l = omega arith
+  pub first-few : p < 2 ^ 27
+  first-few = side-lt p (2 ^ 27) (lt-of-le-of-lt (root-of-rest hi p s first .low) H)
 
-  module _ (w r : ℕ) (W : RootRest (fed 27 (lo * 2 ^ 10 % 2 ^ 64) (p * p + s)) w r) (g : ℕ) (full : 0 < g → 2 ^ 52 ≤ hi) (short : w < 2 ^ 54) where
+  module _ (w r : ℕ) (W : RootRest ((p * p + s) * 2 ^ 54 + lo) w r) (g : ℕ) (full : 0 < g → 2 ^ 52 ≤ hi) (short : w < 2 ^ 54) where
     abbrev N : ℕ
     N = hi * 2 ^ 54 + lo
 
     all : RootRest N w r
-    all = subst (λ (x : ℕ). RootRest x w r) (word (p * p + s) lo L ∙ ap (λ (x : ℕ). x * 2 ^ 54 + lo) (first .value)) W
+    all = subst (λ (x : ℕ). RootRest (x * 2 ^ 54 + lo) w r) (first .value) W
 
     long : 0 < g → 2 ^ 53 ≤ w
     long l = le-of-suc-le-suc (side-lt (2 ^ 53) (suc w) (lt-of-le-of-lt (omega (arith, full l)) (root-of-rest N w r all .high)))

@@ -1,4 +1,4 @@
--- Sizes by their bits, one row each, and one statement that covers them: what the definition computes, and what the exact root rounds to.
+-- Sizes by their bits, one row each, and one statement that covers them.
 use mathlib.Core.Path.{_≡_, refl}
 use mathlib.Core.Bool.{Bool, true, _&&_}
 use mathlib.Core.List.{List, [], _∷_}

@@ -11,7 +11,6 @@ use lib.Pow.{pow-pos, pow-add, pow-mono}
 use lib.Ieee.{nearest}
 use lib.Ieee.Digits.{back}
 use Rattle.root.specs.Whole.{RootRest, strictly, square-lt}
-use Rattle.root.specs.Root.{halfUp}
 
 -- Half of w, by the rule of IEEE 754-2019, 4.3.1 (`nearest`): w / 2 is below the midpoint of two numbers where w is even; where w is odd it is at it, or above it if there is more than w.
 unfoldable pub nearestHalf : ℕ → Bool → ℕ
@@ -40,45 +39,33 @@ pub half-even : (m : ℕ) (more : Bool) → nearestHalf (2 * m) more ≡ m
 half-even m true = half-more (2 * m) ∙ omega arith
 half-even m false = half-exact (2 * m) ∙ omega arith
 
--- where there is no tie, half of w is rounded up
-pub no-tie : (w : ℕ) (more : Bool) → (more ≡ false → w % 2 ≡ 0) → nearestHalf w more ≡ halfUp w
-unfolding halfUp
-no-tie w true h = half-more w ∙ omega arith
-no-tie w false h = half-exact w ∙ omega (arith, h refl)
-
 -- twice the half h is w, or one more, or one less; the last at a tie alone
 data Halved (w h : ℕ) (more : Bool) : Type 0 where
   even : w ≡ h + h → Halved w h more
-  up : suc w ≡ h + h → w % 2 ≡ 1 → (more ≡ false → h % 2 ≡ 0) → Halved w h more
-  down : w ≡ suc (h + h) → w % 2 ≡ 1 → more ≡ false → h % 2 ≡ 0 → Halved w h more
+  up : suc w ≡ h + h → (more ≡ false → h % 2 ≡ 0) → Halved w h more
+  down : w ≡ suc (h + h) → more ≡ false → h % 2 ≡ 0 → Halved w h more
 
 halved : (w : ℕ) (more : Bool) → Halved w (nearestHalf w more) more
 unfolding nearestHalf
-halved w true = elim (parity w) [ inl e ↦ even (rw e (omega arith)) | inr e ↦ up (rw e (omega arith)) e (λ t. absurd (true≢false t)) ]
+halved w true = elim (parity w) [ inl e ↦ even (rw e (omega arith)) | inr e ↦ up (rw e (omega arith)) (λ t. absurd (true≢false t)) ]
 halved w false = elim (parity w) [
   | inl e ↦ even (rw e (omega arith))
   | inr e ↦ elim (parity (w / 2)) [
-    | inl f ↦ down (rw (e, f) (omega arith)) e refl (rw (e, f) (omega arith))
-    | inr f ↦ up (rw (e, f) (omega arith)) e (λ _. rw (e, f) (omega arith))
+    | inl f ↦ down (rw (e, f) (omega arith)) refl (rw (e, f) (omega arith))
+    | inr f ↦ up (rw (e, f) (omega arith)) (λ _. rw (e, f) (omega arith))
   ]
 ]
 
 pub half-few : (w : ℕ) (more : Bool) → w < 2 ^ 54 → nearestHalf w more ≤ 2 ^ 53
-half-few w more l = elim (halved w more) [ even e ↦ omega (arith, e, l) | up e _ _ ↦ omega (arith, e, l) | down e _ _ _ ↦ omega (arith, e, l) ]
+half-few w more l = elim (halved w more) [ even e ↦ omega (arith, e, l) | up e _ ↦ omega (arith, e, l) | down e _ _ ↦ omega (arith, e, l) ]
 
 pub half-least : (w : ℕ) (more : Bool) → 2 ^ 53 ≤ w → 2 ^ 52 ≤ nearestHalf w more
-half-least w more l = elim (halved w more) [ even e ↦ omega (arith, e, l) | up e _ _ ↦ omega (arith, e, l) | down e _ _ _ ↦ omega (arith, e, l) ]
+half-least w more l = elim (halved w more) [ even e ↦ omega (arith, e, l) | up e _ ↦ omega (arith, e, l) | down e _ _ ↦ omega (arith, e, l) ]
 
 -- ---- Why it is nearest. n is four times a square, so that half of n's root is the square's. G = 2 ^ g is the weight of the last digit that is kept, w the whole root of n / (G * G), and r what is left; n % (G * G) is cut off below.
--- Half of w, rounded, is h, which has 53 digits at least, unless G is 1. No number y = m * 2 ^ j with an m of at most 53 digits is nearer to half of n's root than h * G is; where one is as near, n's root is w * G with an odd w, and h is even.
+-- Half of w, rounded, is h, which has 53 digits at least, unless G is 1. No number y = m * 2 ^ j with an m of at most 53 digits is nearer to half of n's root than h * G is; where one is as near, h is even.
 
--- half of n's root is the midpoint of two multiples of G, and h the even one
-pub record Tie (n w h G : ℕ) : Type 0 where
-  pub exact : n ≡ w * w * (G * G)
-  pub odd : w % 2 ≡ 1
-  pub even : h % 2 ≡ 0
-
-pub none-left : (a b : ℕ) → (ltb 0 a || ltb 0 b) ≡ false → (a ≡ 0) × (b ≡ 0)
+none-left : (a b : ℕ) → (ltb 0 a || ltb 0 b) ≡ false → (a ≡ 0) × (b ≡ 0)
 none-left zero zero e = (refl, refl)
 none-left zero (suc b) e = absurd (true≢false (sym (leb·suc-suc 0 b ∙ leb·zero b) ∙ e))
 none-left (suc a) b e = absurd (true≢false (sym (ap (λ (t : Bool). t || ltb 0 b) (leb·suc-suc 0 a ∙ leb·zero a)) ∙ e))
@@ -150,7 +137,7 @@ module _ (n w r g : ℕ) (R : RootRest (n / (2 ^ g * 2 ^ g)) w r) (long : 0 < g 
         small y G h = omega arith
 
     abbrev Beside : ℕ → ℕ → Type 0
-    Beside a b = (a ≤ b) × (a ≡ b → Tie n w h G)
+    Beside a b = (a ≤ b) × (a ≡ b → h % 2 ≡ 0)
 
     square : (a : ℕ) → a * G * (a * G) ≡ a * a * (G * G)
     square a = mul-mul-mul-comm a G a G
@@ -158,8 +145,8 @@ module _ (n w r g : ℕ) (R : RootRest (n / (2 ^ g * 2 ^ g)) w r) (long : 0 < g 
     pub nearest-above : h * G < y → Beside n ((h * G + y) * (h * G + y))
     nearest-above l = elim (halved w more) [
       | even e ↦ over (omega (arith, e))
-      | up e _ _ ↦ over (omega (arith, e))
-      | down e o z v ↦ let s = reach w (omega (arith, e)) in (le-trans (le-of-eq (exact-none z ∙ sym (square w))) (mul-le-mul s s), λ _. record { exact = exact-none z; odd = o; even = v })
+      | up e _ ↦ over (omega (arith, e))
+      | down e z v ↦ let s = reach w (omega (arith, e)) in (le-trans (le-of-eq (exact-none z ∙ sym (square w))) (mul-le-mul s s), λ _. v)
     ]
       where
         reach : (a : ℕ) → a ≤ h + suc h → a * G ≤ h * G + y
@@ -171,11 +158,11 @@ module _ (n w r g : ℕ) (R : RootRest (n / (2 ^ g * 2 ^ g)) w r) (long : 0 < g 
     pub nearest-below : y < h * G → Beside ((y + h * G) * (y + h * G)) n
     nearest-below l = elim (halved w more) [
       | even e ↦ under (omega (arith, e))
-      | up e o v ↦
+      | up e v ↦
           let s : y + h * G ≤ w * G = drop (h * G) y G (w * G) (suc-mul w G) (ap (λ (x : ℕ). x * G) e ∙ add-mul h h G) (next-below e l) in
           let t : (y + h * G) * (y + h * G) ≤ w * w * (G * G) = le-trans (mul-le-mul s s) (le-of-eq (square w)) in
-          (le-trans t low, λ z. let x : n ≡ w * w * (G * G) = le-antisymm (le-trans (le-of-eq (sym z)) t) low in record { exact = x; odd = o; even = v (none-exact x) })
-      | down e _ _ _ ↦ under (omega (arith, e))
+          (le-trans t low, λ z. v (none-exact (le-antisymm (le-trans (le-of-eq (sym z)) t) low)))
+      | down e _ _ ↦ under (omega (arith, e))
     ]
       where
         drop : (A y G W : ℕ) → suc w * G ≡ W + G → suc w * G ≡ A + A → y + G ≤ A → y + A ≤ W

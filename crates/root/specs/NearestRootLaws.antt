@@ -14,7 +14,7 @@ use Rattle.root.specs.Whole.{IsRoot, wholeRoot, whole-root, rest-of-root
 use Rattle.root.specs.NearestHalf.{nearestHalf, parity, half-more, half-exact, half-even, exact-none, none-exact}
 use Rattle.root.specs.Nearest.{Nearest}
 use Rattle.root.specs.NearestRoot.{nearestRoot}
-use Rattle.root.specs.Parts.{four-pow, four-square, four-pos}
+use Rattle.root.specs.PowersOfFour.{four-pow, four-square, four-pos}
 use Rattle.root.specs.HalfRoot.{half-nearest}
 
 abbrev Compared : Ordering → ℕ → ℕ → Type 0

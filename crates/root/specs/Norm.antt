@@ -1,5 +1,5 @@
 -- The size of a complex number (document 02, W5): the value nearest to the exact root of the sum of its parts' squares, and its special values.
--- That it is nearest is `norm-nearest` of `Theorems.antt`. Assumes nothing.
+-- That it is nearest is `norm-nearest` of `NormTheorems.antt`. Assumes nothing.
 use mathlib.Core.Path.{_≡_, refl, ap, ap₂, _∙_}
 use mathlib.Core.Bool.{Bool, true, false, not, _||_, cond}
 use Prim.Native.Nat.{ℕ, _+_, _*_}

@@ -14,7 +14,7 @@ use Rattle.root.specs.NearestHalf.{half-even}
 use Rattle.root.specs.Nearest.{Nearest}
 use Rattle.root.specs.NearestRoot.{nearestRoot}
 use Rattle.root.specs.Norm.{sumOfSquares}
-use Rattle.root.specs.Parts.{four-pow, four-square, four-pos}
+use Rattle.root.specs.PowersOfFour.{four-pow, four-square, four-pos}
 use Rattle.root.specs.FromUnits.{Decodes, decoded-value, decoded-units}
 use Rattle.root.specs.Cut.{Cut, cut-whole, cut-again, cut-plus, cut-scaled}
 use Rattle.root.specs.HalfRoot.{halfRoot, half-nearest, cut-nearest}
@@ -43,12 +43,6 @@ module _ (x y a e b f : ℕ) (X : Decodes x a e) (Y : Decodes y b f) (ordered : 
     where
       over : x ≡ e * 2 ^ 52 + a → y ≡ f * 2 ^ 52 + b → a < 2 ^ 53 → e < f → 2 ^ 52 ≤ b → ⊥
       over p q A l B = omega (arith, ordered)
-
-  pub exponent-room : e < 2046
-  exponent-room = lt-of-not-le (λ (l : 2046 ≤ e). over (X .value) l (X .full (lt-of-lt-of-le (lit< tt) l)))
-    where
-      over : x ≡ e * 2 ^ 52 + a → 2046 ≤ e → 2 ^ 52 ≤ a → ⊥
-      over p l A = omega (arith, below)
 
   abbrev pub distance : ℕ
   distance = e - f

@@ -11,17 +11,13 @@ use lib.Ieee.Positive.{positive}
 use lib.Ieee.Scale.{finite}
 use Rattle.complex.specs.declared.Complex.{Complex}
 use Rattle.root.specs.Units.{inUnits, unsigned-fits}
-use Rattle.root.specs.Root.{rootOf}
+use Rattle.root.specs.Root.{rootOf, root-instance}
 use Rattle.root.specs.Nearest.{Candidate, Nearest}
 use Rattle.root.specs.NearestLaws.{exact-nearest, overflow}
 use Rattle.root.specs.NearestRoot.{nearestRoot}
 use Rattle.root.specs.NearestRootLaws.{nearest-root}
 use Rattle.root.specs.Norm.{sumOfSquares, normOf, norm-finite}
-use Rattle.root.specs.Theorems.{only-nearest, root-nearest}
-
--- the root is `nearestRoot` of an exact square that is an f64
-pub root-instance : (x : Float) → T (fits binary64 x) → T (positive x) → rootOf x ≡ nearestRoot (inUnits x * 2 ^ 1074)
-root-instance x h p = let q = inUnits x * 2 ^ 1074 in only-nearest (rootOf x) (nearestRoot q) q (root-nearest x h p) (nearest-root q)
+use Rattle.root.specs.Theorems.{only-nearest}
 
 module _ (a : Complex) (re : T (finite (a .re))) (im : T (finite (a .im))) where
   abbrev square : ℕ
@@ -36,7 +32,7 @@ module _ (a : Complex) (re : T (finite (a .re))) (im : T (finite (a .im))) where
 
   -- where the sum is an f64, the size is its root
   pub norm-root : (x : Float) → T (fits binary64 x) → T (positive x) → square ≡ inUnits x * 2 ^ 1074 → normOf a ≡ rootOf x
-  norm-root x h p e = norm-finite a re im ∙ ap nearestRoot e ∙ sym (root-instance x h p)
+  norm-root x h p e = norm-finite a re im ∙ ap nearestRoot e ∙ sym (root-instance x p)
 
   -- past the largest value it is the infinity, from 2 ^ 1023 * (2 - 2 ^ -53) on, which is 2 ^ 2098 - 2 ^ 2044 units
   pub norm-overflow : (2 ^ 2098 - 2 ^ 2044) * (2 ^ 2098 - 2 ^ 2044) ≤ square → normOf a ≡ inf false

@@ -3,21 +3,17 @@ use mathlib.Core.Path.{_≡_, refl, sym, ap, ap₂, _∙_, subst}
 use mathlib.Core.Bool.{Bool, true, false, not, cond, true≢false}
 use mathlib.Core.Logic.{_⊎_, inl, inr}
 use Prim.Native.Nat.{ℕ, zero, suc, _+_, _-_, _*_, _/_, _%_, _^_, _≤_, _<_}
-use native.Mathlib.Nat.{eq-or-lt-of-le, le-of-lt, lt-of-lt-of-le, lt-of-le-of-lt, lt-of-not-le, lt-irrefl, mul-le-mul-right, mul-pos, mul-comm, mul-assoc, mul-one, zero-mul, mod-eq-of-lt}
+use native.Mathlib.Nat.{eq-or-lt-of-le, le-of-lt, lt-irrefl, mul-pos, zero-mul}
 use native.Mathlib.Omega.{arith}
-use lib.Dec.{T, leb, eqb, le→leb, eqb→eq, lit≤, not-T}
+use lib.Dec.{T, leb, eqb, le→leb, eqb→eq, not-T}
 use lib.Arith.{lt→nleb}
-use lib.Pow.{pow-pos, pow-add, pow-mono, shl-lt}
-use lib.Count.{leadingZeros, leading-top}
+use lib.Pow.{pow-pos}
 use lib.Ieee.{Float, nan, inf, fin, binary64, up, odd, ofFields, ofBits, toBits, isNan, ne, div, fits}
 use lib.Ieee.Compare.{differs-from-itself, nan-differs}
 use lib.Ieee.Fits.{down-pos}
 use lib.Ieee.Bits.{is-true, is-false, cond-no, ofBits-toBits}
 use lib.Ieee.Exact.{HasValue, odd-sign}
-use lib.Ieee.Positive.{positive-of-value}
-use Rattle.root.specs.Units.{units-of-value}
-use Rattle.root.specs.Root.{rootOf, rootOfUnits, root-units, root-nan, root-inf, root-oneF}
-use Rattle.root.specs.Parts.{Parts, fromParts, root-parts}
+use Rattle.root.specs.Root.{rootOf, root-nan, root-inf, root-oneF}
 
 -- ---- a pattern's fields
 
@@ -47,88 +43,6 @@ at-ones s t = go (eqb t 0)
     go true = inl refl
     go false = inr refl
 
--- ---- a value above zero
-
-value-root : (x : Float) (n : ℕ) → HasValue x false n (2 ^ 1074) → 0 < n → rootOf x ≡ rootOfUnits n
-value-root x n h N = root-units x (positive-of-value x n (2 ^ 1074) h N) ∙ ap rootOfUnits (units-of-value x n h)
-
-field-lt : (b : ℕ) → b < 0x7FF0_0000_0000_0000 → b / 2 ^ 52 < 2047
-field-lt b h = omega arith
-
-below-sign : (b : ℕ) → b < 0x7FF0_0000_0000_0000 → b < 2 ^ 63
-below-sign b h = omega arith
-
-digits-lt : (b : ℕ) → b % 2 ^ 52 < 2 ^ 52
-digits-lt b = omega arith
-
-leading-pos : (t : ℕ) → 0 < 2 ^ 52 + t
-leading-pos t = omega arith
-
-pub normal-root : (b : ℕ) → b < 0x7FF0_0000_0000_0000 → 0 < b / 2 ^ 52 → rootOf (ofBits binary64 b) ≡ fromParts (52 + b / 2 ^ 52) (2 ^ 52 + b % 2 ^ 52)
-normal-root b h e = ap rootOf (of-fields b (below-sign b h)) ∙ at (b / 2 ^ 52) (b % 2 ^ 52) e (field-lt b h) (digits-lt b)
-  where
-    parts : (e t : ℕ) → t < 2 ^ 52 → Parts ((2 ^ 52 + t) * 2 ^ e) (53 + e) (2 ^ 52 + t)
-    parts e t h = record { value = ap (λ (x : ℕ). (2 ^ 52 + t) * x) (pow-add 2 53 e ∙ mul-comm (2 ^ 53) (2 ^ e)) ∙ sym (mul-assoc (2 ^ 52 + t) (2 ^ e) (2 ^ 53)); low = omega arith; high = omega arith }
-
-    at : (e t : ℕ) → 0 < e → e < 2047 → t < 2 ^ 52 → rootOf (ofFields binary64 false e t) ≡ fromParts (52 + e) (2 ^ 52 + t)
-    at zero t p h k = absurd (lt-irrefl 0 p)
-    at (suc e) t p h k =
-        ap rootOf (under-ones false e t h)
-        ∙ value-root (odd 53 false (2 ^ 52 + t) e 1074) ((2 ^ 52 + t) * 2 ^ e) (odd-sign 53 false (2 ^ 52 + t) e 1074) (mul-pos (leading-pos t) (pow-pos e))
-        ∙ root-parts ((2 ^ 52 + t) * 2 ^ e) (53 + e) (2 ^ 52 + t) (parts e t k)
-        ∙ ap (λ (x : ℕ). fromParts x (2 ^ 52 + t)) (omega arith)
-
--- a subnormal value's digits t, moved up by all but 11 of the z zeros before them in a word of 64
-pub record Shifted (t z : ℕ) : Type 0 where
-  pub enough : 11 ≤ z
-  pub below : z < 64
-  pub parts : Parts t (64 - z) (t * 2 ^ (z - 11))
-
-shifted : (t : ℕ) → 0 < t → t < 2 ^ 52 → Shifted t (leadingZeros 64 t)
-shifted t p h =
-    let z = leadingZeros 64 t in
-    let l = leading-top 64 t p (lt-of-lt-of-le h (lit≤ tt)) in
-    let j = l .0 in
-    let f = places z j (l .1) (pow-lt-back j 52 (lt-of-le-of-lt (l .2) h)) in
-    record {
-      enough = f .0;
-      below = f .1;
-      parts = record {
-        value = mul-assoc t (2 ^ (z - 11)) (2 ^ (64 - z)) ∙ ap (λ (x : ℕ). t * x) (sym (pow-add 2 (z - 11) (64 - z)) ∙ ap (λ (x : ℕ). 2 ^ x) (all z (f .0) (f .1)));
-        low = subst (λ (x : ℕ). 2 ^ x ≤ t * 2 ^ (z - 11)) (f .2) (subst (λ (x : ℕ). x ≤ t * 2 ^ (z - 11)) (sym (pow-add 2 j (z - 11))) (mul-le-mul-right (2 ^ (z - 11)) (l .2)));
-        high = subst (λ (x : ℕ). t * 2 ^ (z - 11) < 2 ^ x) (f .3) (shl-lt (suc j) (z - 11) (l .3));
-      };
-    }
-  where
-    pow-lt-back : (i p : ℕ) → 2 ^ i < 2 ^ p → i < p
-    pow-lt-back i p h = lt-of-not-le (λ (g : p ≤ i). lt-irrefl (2 ^ i) (lt-of-lt-of-le h (pow-mono g)))
-
-    places : (z j : ℕ) → z + suc j ≡ 64 → j < 52 → (11 ≤ z) × (z < 64) × (j + (z - 11) ≡ 52) × (suc j + (z - 11) ≡ 53)
-    places z j e h = omega arith
-
-    all : (z : ℕ) → 11 ≤ z → z < 64 → z - 11 + (64 - z) ≡ 53
-    all z a b = omega arith
-
-module _ (b : ℕ) (p : 0 < b) (e : b / 2 ^ 52 ≡ 0) where
-  t-pos : 0 < b % 2 ^ 52
-  t-pos = omega arith
-
-  pub subnormal-shift : Shifted (b % 2 ^ 52) (leadingZeros 64 (b % 2 ^ 52))
-  subnormal-shift = shifted (b % 2 ^ 52) t-pos (digits-lt b)
-
-  -- moved up within a word, nothing is lost
-  pub subnormal-word : b % 2 ^ 52 * 2 ^ (leadingZeros 64 (b % 2 ^ 52) - 11) % 2 ^ 64 ≡ b % 2 ^ 52 * 2 ^ (leadingZeros 64 (b % 2 ^ 52) - 11)
-  subnormal-word = mod-eq-of-lt (lt-of-lt-of-le (subnormal-shift .parts .high) (lit≤ tt))
-
-  pub subnormal-root : b < 0x7FF0_0000_0000_0000 → rootOf (ofBits binary64 b) ≡ fromParts (64 - leadingZeros 64 (b % 2 ^ 52)) (b % 2 ^ 52 * 2 ^ (leadingZeros 64 (b % 2 ^ 52) - 11) % 2 ^ 64)
-  subnormal-root h =
-      let t = b % 2 ^ 52 in
-      let z = leadingZeros 64 t in
-      ap rootOf (of-fields b (below-sign b h) ∙ ap (λ (x : ℕ). ofFields binary64 false x t) e ∙ at-zero false t)
-      ∙ value-root (odd 53 false t 0 1074) t (subst (λ (x : ℕ). HasValue (odd 53 false t 0 1074) false x (2 ^ 1074)) (mul-one t) (odd-sign 53 false t 0 1074)) t-pos
-      ∙ root-parts t (64 - z) (t * 2 ^ (z - 11)) (subnormal-shift .parts)
-      ∙ ap (λ (x : ℕ). fromParts (64 - z) x) (sym subnormal-word)
-
 -- ---- a zero, 1, the infinity or a NaN
 
 pub zero-root : (b : ℕ) → b ≡ 0 → rootOf (ofBits binary64 b) ≡ ofBits binary64 b
@@ -153,6 +67,9 @@ top-root b h k = subst (λ (v : Float). rootOf v ≡ v) (sym (of-fields b k ∙ 
     itself (inr e) = subst (λ (v : Float). rootOf v ≡ v) (sym e) root-nan
 
 -- ---- a value below zero
+
+leading-pos : (t : ℕ) → 0 < 2 ^ 52 + t
+leading-pos t = omega arith
 
 minus-root : (x : Float) (a c : ℕ) → HasValue x true a c → 0 < a → rootOf x ≡ nan
 unfolding rootOf

@@ -36,7 +36,7 @@ pub record Promised : Type 0 where
   pub norm-nearest : (a : Complex) → T (finite (a .re)) → T (finite (a .im)) → Nearest (normOf a) (sumOfSquares (a .re) (a .im))
   pub norm-overflow : (a : Complex) → T (finite (a .re)) → T (finite (a .im)) → (2 ^ 2098 - 2 ^ 2044) * (2 ^ 2098 - 2 ^ 2044) ≤ sumOfSquares (a .re) (a .im) → normOf a ≡ inf false
   pub norm-root : (a : Complex) → T (finite (a .re)) → T (finite (a .im)) → (x : Float) → T (fits binary64 x) → T (positive x) → sumOfSquares (a .re) (a .im) ≡ inUnits x * 2 ^ 1074 → normOf a ≡ rootOf x
-  pub root-instance : (x : Float) → T (fits binary64 x) → T (positive x) → rootOf x ≡ nearestRoot (inUnits x * 2 ^ 1074)
+  pub root-instance : (x : Float) → T (positive x) → rootOf x ≡ nearestRoot (inUnits x * 2 ^ 1074)
   -- an infinite part, else a NaN part; two zeros; a number on the real axis
   pub norm-infinite : (a : Complex) → T (infinite (a .re) || infinite (a .im)) → normOf a ≡ inf false
   pub norm-nan : (a : Complex) → T (not (infinite (a .re) || infinite (a .im))) → T (isNan (a .re) || isNan (a .im)) → normOf a ≡ nan
@@ -58,7 +58,7 @@ promised = record {
   norm-nearest = size.norm-nearest;
   norm-overflow = size.norm-overflow;
   norm-root = size.norm-root;
-  root-instance = size.root-instance;
+  root-instance = special.root-instance;
   norm-infinite = norm.norm-infinite;
   norm-nan = norm.norm-nan;
   norm-zero = size.norm-zero;

@@ -2,39 +2,25 @@
 -- That it is the value of the format nearest to the exact root, and never a tie, is `root-nearest` and `root-no-tie` of `Theorems.antt`. Assumes nothing.
 use mathlib.Core.Path.{_≡_, refl}
 use mathlib.Core.Bool.{Bool, true, false}
-use Prim.Native.Nat.{ℕ, zero, suc, _+_, _*_, _/_, _^_, _<_}
+use Prim.Native.Nat.{ℕ, zero, suc, _+_, _*_, _^_, _<_}
 use native.Mathlib.Omega.{arith}
 use lib.Dec.{T, ltb→lt}
 use lib.IntN.{pos}
-use lib.Ieee.{Float, nan, inf, fin, up, down, size, odd, lt, ofBits}
+use lib.Ieee.{Float, nan, inf, fin, up, down, lt, ofBits}
 use lib.Ieee.Positive.{positive}
 use Rattle.complex.specs.Complex.{zeroF, oneF}
 use Rattle.root.specs.Units.{inUnits}
-use Rattle.root.specs.Whole.{wholeRoot}
+use Rattle.root.specs.NearestRoot.{nearestRoot}
 
--- half of w, rounded up
-unfoldable pub halfUp : ℕ → ℕ
-halfUp w = suc w / 2
-
--- The root of n units of 2 ^ -1074, for n above 0. The root of the number n has h binary digits, where h is half of n's count of digits, rounded up.
--- So the whole root of n * 4 ^ (54 - h) has 54 digits, w, and half of w, rounded up, has 53: the result's significand.
--- The root of a unit is 2 ^ -537, so the significand's last digit weighs 2 ^ (h - 53 - 537), which is 2 ^ (h + 484) units.
-unfoldable pub rootOfUnits : ℕ → Float
-unfolding halfUp wholeRoot size odd
-rootOfUnits n =
-    let h = suc (size n) / 2 in
-    let w = wholeRoot 54 (n * 4 ^ 54 / 4 ^ h) in
-    odd 53 false (halfUp w) (h + 484) 1074
-
--- A zero is its own root, with its sign, and so is the infinity. Nothing else below zero has a root.
+-- A zero is its own root, with its sign, and so is the infinity. Nothing else below zero has a root. A unit is 2 ^ 1074 squares of a unit.
 unfoldable pub rootOf : Float → Float
-unfolding rootOfUnits inUnits
+unfolding nearestRoot inUnits
 rootOf nan = nan
 rootOf (inf true) = nan
 rootOf (inf false) = inf false
 rootOf (fin s zero e) = fin s zero e
 rootOf (fin true (suc m) e) = nan
-rootOf (fin false (suc m) e) = rootOfUnits (inUnits (fin false (suc m) e))
+rootOf (fin false (suc m) e) = nearestRoot (inUnits (fin false (suc m) e) * 2 ^ 1074)
 
 -- ---- special values
 
@@ -77,10 +63,10 @@ root-oneF = refl
 
 -- ---- a finite value above zero
 
-pub root-units : (x : Float) → T (positive x) → rootOf x ≡ rootOfUnits (inUnits x)
+pub root-instance : (x : Float) → T (positive x) → rootOf x ≡ nearestRoot (inUnits x * 2 ^ 1074)
 unfolding rootOf
-root-units nan p = absurd p
-root-units (inf s) p = absurd p
-root-units (fin true m e) p = absurd p
-root-units (fin false zero e) p = absurd p
-root-units (fin false (suc m) e) p = refl
+root-instance nan p = absurd p
+root-instance (inf s) p = absurd p
+root-instance (fin true m e) p = absurd p
+root-instance (fin false zero e) p = absurd p
+root-instance (fin false (suc m) e) p = refl

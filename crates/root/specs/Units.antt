@@ -4,7 +4,7 @@ use mathlib.Core.Path.{_≡_, refl, sym, ap, _∙_, subst}
 use mathlib.Core.Bool.{Bool, true, false, not, _&&_, true≢false}
 use mathlib.Core.Logic.{inl, inr}
 use Prim.Native.Nat.{ℕ, zero, suc, _+_, _-_, _*_, _/_, _%_, _^_, _≤_, _<_}
-use native.Mathlib.Nat.{le-refl, mul-le-mul-right, two-pow-succ, zero-lt-suc, le-trans, le-of-eq, le-of-lt, le-of-suc-le-suc, lt-of-le-of-lt, lt-of-lt-of-le, lt-of-not-le, not-le-of-lt, lt-irrefl, eq-or-lt-of-le, mul-lt-mul-of-pos-right, lt-of-mul-lt-mul-right, le-div-iff-mul-le, mul-assoc, mul-right-comm, mul-one, zero-mul, mul-div-cancel, zero-add}
+use native.Mathlib.Nat.{le-refl, mul-le-mul-right, two-pow-succ, zero-lt-suc, le-trans, le-of-eq, le-of-lt, le-of-suc-le-suc, lt-of-le-of-lt, lt-of-lt-of-le, lt-of-not-le, not-le-of-lt, lt-irrefl, eq-or-lt-of-le, mul-lt-mul-of-pos-right, lt-of-mul-lt-mul-right, le-div-iff-mul-le, mul-comm, mul-assoc, mul-right-comm, mul-one, zero-mul, mul-div-cancel, zero-add}
 use native.Mathlib.Omega.{arith}
 use lib.Arith.{lt-of-le-ne, le→nltb}
 use lib.IntN.{ℤ, pos, negsuc}
@@ -207,6 +207,15 @@ units-below s (suc m) e h =
     (lt-of-mul-lt-mul-right (down e)
     (lt-of-le-of-lt (le-of-eq (sym (H .is)))
     (lt-of-lt-of-le (mul-lt-mul-of-pos-right k (pow-pos 1074)) (le-of-eq (mul-right-comm (2 ^ 1024) (down e) (2 ^ 1074))))))
+
+pub positive-below : (x : Float) → T (fits binary64 x) → T (positive x) → inUnits x < 2 ^ 2098
+positive-below nan h p = absurd p
+positive-below (inf s) h p = absurd p
+positive-below (fin s m e) h p = units-below s m e h
+
+-- four times m * 2 ^ j units, in squares of a unit
+pub four-units : (m j : ℕ) → 4 * (m * 2 ^ j * 2 ^ 1074) ≡ m * 2 ^ (j + 1076)
+four-units m j = mul-comm 4 (m * 2 ^ j * 2 ^ 1074) ∙ mul-assoc (m * 2 ^ j) (2 ^ 1074) 4 ∙ mul-assoc m (2 ^ j) (2 ^ 1076) ∙ ap (λ (x : ℕ). m * x) (sym (pow-add 2 j 1076))
 
 -- ---- two values with the sign clear that are as many units are one, and of two that are not, the one of more units has the larger pattern
 

@@ -7,7 +7,7 @@ use native.Mathlib.Omega.{arith}
 use lib.Arith.{digits-lt}
 use lib.Dec.{lit<}
 use lib.Pow.{pow-add, shl-exact}
-use Rattle.root.specs.Parts.{four-pow, four-pos}
+use Rattle.root.specs.PowersOfFour.{four-pow, four-pos}
 use Rattle.root.specs.declared.Wide.{Wide}
 
 -- the number that the two words stand for

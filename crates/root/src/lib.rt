@@ -1,18 +1,16 @@
-// The square root of an f64, correctly rounded, and the size of a complex number.
-// The root is found a binary digit at a time, highest first, in 64-bit whole numbers.
+// The square root of an f64 and the size of a complex number, each correctly rounded.
+// Both are half of the root of a whole number, which is found a binary digit at a time, highest first, in 64-bit words.
 use complex::Complex;
 ghost use mathlib.Core.Path.{_≡_};
 ghost use mathlib.Core.Bool.{false, _||_};
-ghost use Prim.Native.Nat.{suc, _+_, _*_, _/_, _%_, _^_, _≤_, _<_};
+ghost use Prim.Native.Nat.{_+_, _*_, _/_, _%_, _^_, _≤_, _<_};
 ghost use lib.Dec.{T, ltb};
 ghost use lib.Ieee.{binary64, fits, units, ofBits, toBits};
 ghost use Rattle.root.specs.Root.{rootOf};
 ghost use Rattle.root.specs.NearestRoot.{nearestRoot};
 ghost use Rattle.root.specs.Norm.{sumOfSquares, normOf};
 ghost use Rattle.root.specs.Whole.{RootRest};
-ghost use Rattle.root.specs.Digits.{fed};
 ghost use Rattle.root.specs.NearestHalf.{nearestHalf};
-ghost use Rattle.root.specs.Parts.{fromParts};
 ghost use Rattle.root.specs.Wide.{whole, Holds};
 ghost use Rattle.root.specs.FromUnits.{Decodes};
 ghost use Rattle.root.specs.HalfRoot.{halfRoot};
@@ -24,21 +22,23 @@ struct Found {
     rest: u64,
 }
 
-// k digits more of a root, one a turn and highest first: q holds those found, r what the number's digits so far are above
-// q * q, and s the number's next digits, at its top. A digit is a number and not a branch, since nothing foretells it.
-fn digits(k: u64, mut s: u64, mut q: u64, mut r: u64) -> Found
-    requires { ⌜ suc q * 2 ^ k ≤ 2 ^ 54 ⌝ }
+// 27 digits more of a root, one a turn and highest first: q holds those found, r what the number's digits so far are above
+// q * q, and d the number's next 54. A digit is a number and not a branch, since nothing foretells it.
+fn digits(d: u64, mut q: u64, mut r: u64) -> Found
+    requires { ⌜ d < 2 ^ 54 ⌝ }
+    requires { ⌜ q < 2 ^ 27 ⌝ }
     requires { ⌜ r ≤ 2 * q ⌝ }
-    ensures { λ w. ⌜ RootRest (fed k s (q * q + r)) (w .root) (w .rest) ⌝ }
+    ensures { λ w. ⌜ RootRest ((q * q + r) * 2 ^ 54 + d) (w .root) (w .rest) ⌝ }
     ensures { λ w. ⌜ w .root < 2 ^ 54 ⌝ }
 {
-    for _ in 0..k {
+    let mut s = d << 10;
+    for _ in 0..27u64 {
         let t = 4 * r + (s >> 62);
-        let d = 4 * q + 1;
-        let b: u64 = if t < d { 0 } else { 1 };
+        let c = 4 * q + 1;
+        let b: u64 = if t < c { 0 } else { 1 };
         s = s << 2;
         q = 2 * q + b;
-        r = t - b * d;
+        r = t - b * c;
     }
     Found { root: q, rest: r }
 }
@@ -57,32 +57,85 @@ fn nearest_half(found: Found, cut: bool) -> u64
     }
 }
 
-// The root of the number whose first 53 binary digits are c, and whose length is p, in units of
-// 2^-1074: 54 digits of the root, of which the last rounds the others.
-fn from_parts(p: u64, c: u64) -> f64
-    requires { ⌜ p ≤ 2098 ⌝ }
-    requires { ⌜ 2 ^ 52 ≤ c ⌝ }
-    requires { ⌜ c < 2 ^ 53 ⌝ }
-    ensures { λ r. ⌜ r ≡ fromParts p c ⌝ }
-{
-    let found = digits(54, c << (11 - p % 2), 0, 0);
-    f64::from_bits(((p + 1) / 2 + 484) * 0x10_0000_0000_0000 + nearest_half(found, false))
+// A whole number, hi * 2^54 + lo with lo below 2^54, and whether anything was cut off below it.
+struct Wide {
+    hi: u64,
+    lo: u64,
+    cut: bool,
 }
 
-// The root of a finite value above zero, by its bit pattern.
+// h * 2^g units, where h may be 2^53. Past the largest f64 the pattern is the infinity's, and not one that follows it.
+fn from_units(h: u64, g: u64) -> f64
+    requires { ⌜ h ≤ 2 ^ 53 ⌝ }
+    requires { ⌜ (0 < g → 2 ^ 52 ≤ h) ⌝ }
+    requires { ⌜ g ≤ 2046 ⌝ }
+    ensures { λ r. ⌜ r ≡ units binary64 false h g ⌝ }
+{
+    let b = g * 0x10_0000_0000_0000 + h;
+    if b > 0x7ff0_0000_0000_0000 {
+        f64::from_bits(0x7ff0_0000_0000_0000)
+    } else {
+        f64::from_bits(b)
+    }
+}
+
+// Half of the root of n, rounded to the nearest, times 2^g units.
+fn half_root(n: Wide, g: u64) -> f64
+    requires { ⌜ n .hi < 2 ^ 54 ⌝ }
+    requires { ⌜ n .lo < 2 ^ 54 ⌝ }
+    requires { ⌜ (0 < g → 2 ^ 52 ≤ n .hi) ⌝ }
+    requires { ⌜ g ≤ 2046 ⌝ }
+    ensures { λ r. ⌜ r ≡ halfRoot (whole n) (n .cut) g ⌝ }
+{
+    let first = digits(n.hi, 0, 0);
+    let found = digits(n.lo, first.root, first.rest);
+    from_units(nearest_half(found, n.cut), g)
+}
+
+// A finite value, its sign aside: significand * 2^exponent units of 2^-1074.
+struct Decoded {
+    significand: u64,
+    exponent: u64,
+}
+
+// The value with the bit pattern b. A subnormal one has no leading digit, and the exponent of the smallest normal ones.
+fn integer_decode(b: u64) -> Decoded
+    requires { ⌜ b < 0x7ff0_0000_0000_0000 ⌝ }
+    ensures { λ d. ⌜ Decodes b (d .significand) (d .exponent) ⌝ }
+{
+    let e = b >> 52;
+    let t = b % 0x10_0000_0000_0000;
+    if e == 0 {
+        Decoded {
+            significand: t,
+            exponent: 0,
+        }
+    } else {
+        Decoded {
+            significand: 0x10_0000_0000_0000 + t,
+            exponent: e - 1,
+        }
+    }
+}
+
+// ---- the square root
+
+// The root of a finite value above zero, by its bit pattern. Four times the value is c * 2^e squares of a unit, where c is
+// the significand moved up to 53 binary digits; moved up once more where e is odd, it has the half of an even exponent.
 fn positive(b: u64) -> f64
     requires { ⌜ 0 < b ⌝ }
     requires { ⌜ b < 0x7ff0_0000_0000_0000 ⌝ }
     ensures { λ r. ⌜ r ≡ rootOf (ofBits binary64 b) ⌝ }
 {
-    let e = b >> 52;
-    let t = b % 0x10_0000_0000_0000;
-    if e == 0 {
-        let z = u64::leading_zeros(t) as u64;
-        from_parts(64 - z, t << (z - 11))
-    } else {
-        from_parts(52 + e, 0x10_0000_0000_0000 + t)
-    }
+    let d = integer_decode(b);
+    let z = u64::leading_zeros(d.significand) as u64 - 11;
+    let e = d.exponent + 1076 - z;
+    let n = Wide {
+        hi: d.significand << (z + e % 2),
+        lo: 0,
+        cut: false,
+    };
+    half_root(n, e / 2 - 27)
 }
 
 // The root of x. A zero is its own root, with its sign; of anything else below zero, and of a NaN, it
@@ -113,13 +166,6 @@ pub fn root(x: f64) -> f64
 }
 
 // ---- the size of a complex number
-
-// A whole number, hi * 2^54 + lo with lo below 2^54, and whether anything was cut off below it.
-struct Wide {
-    hi: u64,
-    lo: u64,
-    cut: bool,
-}
 
 // The square of m, by halves of 27 binary digits.
 fn square(m: u64) -> Wide
@@ -166,60 +212,6 @@ fn sum(m: Wide, n: Wide) -> Wide
         lo: lo % 0x40_0000_0000_0000,
         cut: n.cut,
     }
-}
-
-// A finite value, its sign aside: significand * 2^exponent units of 2^-1074.
-struct Decoded {
-    significand: u64,
-    exponent: u64,
-}
-
-// The value with the bit pattern b. A subnormal one has no leading digit, and the exponent of the smallest normal ones.
-fn integer_decode(b: u64) -> Decoded
-    requires { ⌜ b < 0x7ff0_0000_0000_0000 ⌝ }
-    ensures { λ d. ⌜ Decodes b (d .significand) (d .exponent) ⌝ }
-{
-    let e = b >> 52;
-    let t = b % 0x10_0000_0000_0000;
-    if e == 0 {
-        Decoded {
-            significand: t,
-            exponent: 0,
-        }
-    } else {
-        Decoded {
-            significand: 0x10_0000_0000_0000 + t,
-            exponent: e - 1,
-        }
-    }
-}
-
-// h * 2^g units, where h may be 2^53. Past the largest f64 the pattern is the infinity's, and not one that follows it.
-fn from_units(h: u64, g: u64) -> f64
-    requires { ⌜ h ≤ 2 ^ 53 ⌝ }
-    requires { ⌜ (0 < g → 2 ^ 52 ≤ h) ⌝ }
-    requires { ⌜ g ≤ 2046 ⌝ }
-    ensures { λ r. ⌜ r ≡ units binary64 false h g ⌝ }
-{
-    let b = g * 0x10_0000_0000_0000 + h;
-    if b > 0x7ff0_0000_0000_0000 {
-        f64::from_bits(0x7ff0_0000_0000_0000)
-    } else {
-        f64::from_bits(b)
-    }
-}
-
-// Half of the root of n, rounded to the nearest, times 2^g units.
-fn half_root(n: Wide, g: u64) -> f64
-    requires { ⌜ n .hi < 2 ^ 54 ⌝ }
-    requires { ⌜ n .lo < 2 ^ 54 ⌝ }
-    requires { ⌜ (0 < g → 2 ^ 52 ≤ n .hi) ⌝ }
-    requires { ⌜ g ≤ 2046 ⌝ }
-    ensures { λ r. ⌜ r ≡ halfRoot (whole n) (n .cut) g ⌝ }
-{
-    let first = digits(27, n.hi << 10, 0, 0);
-    let found = digits(27, n.lo << 10, first.root, first.rest);
-    from_units(nearest_half(found, n.cut), g)
 }
 
 // Four times the sum of the squares of a and b / 2^k, cut to a whole number.

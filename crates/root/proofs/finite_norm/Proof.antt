@@ -7,9 +7,10 @@ use native.Mathlib.Nat.{le-of-lt}
 use native.Mathlib.Omega.{arith}
 use lib.Dec.{ltb}
 use Rattle.root.specs.Units.{pattern-real}
+use Rattle.root.specs.FromUnits.{decoded-exponent}
 use Rattle.root.specs.Wide.{upper-lt, upper-ge}
 use Rattle.root.specs.HalfRoot.{halfRoot}
-use Rattle.root.specs.NormMethod.{exponents-ordered, exponent-room, sum-low, sum-high, far, near, near-longer}
+use Rattle.root.specs.NormMethod.{exponents-ordered, sum-low, sum-high, far, near, near-longer}
 use Rattle.root.proofs.finite_norm.Statement.{statement}
 use Rattle.root.proofs.finite_norm.Tie as tie
 
@@ -38,7 +39,7 @@ half-root-requires c κs =
     let s = d .before .before in
     let X = d .before .integer-decode .ensures in
     let Y = d .integer-decode2 .ensures in
-    (c .if2 .taken, (S .low, (λ p. upper-ge _ _ _ (S .value) (S .low) (sum-low _ _ _ _ _ _ X Y (s .pre .0) (s .pre .1) p), le-of-lt (exponent-room _ _ _ _ _ _ X Y (s .pre .0) (s .pre .1)))))
+    (c .if2 .taken, (S .low, (λ p. upper-ge _ _ _ (S .value) (S .low) (sum-low _ _ _ _ _ _ X Y (s .pre .0) (s .pre .1) p), le-of-lt (decoded-exponent _ _ _ X (s .pre .1)))))
 
 quotient-requires : tie.Need-quotient-requires
 quotient-requires c κs = search needs
@@ -47,7 +48,7 @@ add-half-root : tie.Need-add-half-root
 add-half-root c =
     let d = c .before .before .before .before .before .before .before .before in
     let s = d .before .before in
-    omega (arith, exponent-room _ _ _ _ _ _ (d .before .integer-decode .ensures) (d .integer-decode2 .ensures) (s .pre .0) (s .pre .1))
+    omega (arith, decoded-exponent _ _ _ (d .before .integer-decode .ensures) (s .pre .1))
 
 half-root-requires-2 : tie.Need-half-root-requires-2
 half-root-requires-2 c κs =
@@ -57,7 +58,7 @@ half-root-requires-2 c κs =
     let s = d .before .before in
     let X = d .before .integer-decode .ensures in
     let Y = d .integer-decode2 .ensures in
-    (upper-lt _ _ _ (Q .value) (omega (arith, S .value, sum-high _ _ _ _ _ _ X Y (s .pre .0) (s .pre .1))), (Q .low, (λ _. upper-ge _ _ _ (Q .value) (Q .low) (omega (arith, c .before .before .if2 .left)), omega (arith, exponent-room _ _ _ _ _ _ X Y (s .pre .0) (s .pre .1)))))
+    (upper-lt _ _ _ (Q .value) (omega (arith, S .value, sum-high _ _ _ _ _ _ X Y (s .pre .0) (s .pre .1))), (Q .low, (λ _. upper-ge _ _ _ (Q .value) (Q .low) (omega (arith, c .before .before .if2 .left)), omega (arith, decoded-exponent _ _ _ X (s .pre .1)))))
 
 returns-2 : tie.Need-returns-2
 returns-2 c =

@@ -4,7 +4,7 @@ use mathlib.Core.Path.{_∙_, ap}
 use mathlib.Core.Bool.{false}
 use Prim.Native.Nat.{ℕ}
 use lib.Ieee.{binary64, units}
-use Rattle.root.specs.HalfRoot.{first-room, half-digits, half-found}
+use Rattle.root.specs.HalfRoot.{first-few, half-digits, half-found}
 use Rattle.root.proofs.half_root.Statement.{statement}
 use Rattle.root.proofs.half_root.Tie as tie
 
@@ -12,7 +12,7 @@ digits-requires : tie.Need-digits-requires
 digits-requires c κs = search needs
 
 digits-requires-2 : tie.Need-digits-requires-2
-digits-requires-2 c κs = let d = c .before in let s = d .before .before in first-room (s .args .n .hi) (s .args .n .lo) (s .pre .0) (s .pre .1 .0) _ _ (d .digits .ensures .0)
+digits-requires-2 c κs = let s = c .before in (s .pre .1 .0, (first-few (s .args .n .hi) (s .args .n .lo) (s .pre .0) (s .pre .1 .0) _ _ (c .digits .ensures .0), c .digits .ensures .0 .rest))
 
 nearest-half-requires : tie.Need-nearest-half-requires
 nearest-half-requires c κs = search needs
@@ -20,16 +20,16 @@ nearest-half-requires c κs = search needs
 from-units-requires : tie.Need-from-units-requires
 from-units-requires c κs =
     let e = c .before in
-    let d = e .before .before in
-    let s = d .before .before in
+    let d = e .before in
+    let s = d .before in
     let S = half-digits (s .args .n .hi) (s .args .n .lo) (s .pre .0) (s .pre .1 .0) _ _ (d .digits .ensures .0) _ _ (e .digits2 .ensures .0) (s .args .g) (s .pre .1 .1 .0) (e .digits2 .ensures .1) (s .args .n .cut) in
     rw (c .nearest-half .ensures) (S .0, (S .1, s .pre .1 .1 .1))
 
 returns : tie.Need-returns
 returns c =
     let e = c .before .before in
-    let d = e .before .before in
-    let s = d .before .before in
+    let d = e .before in
+    let s = d .before in
     c .from-units .ensures
     ∙ ap (λ (h : ℕ). units binary64 false h (s .args .g)) (c .before .nearest-half .ensures)
     ∙ half-found (s .args .n .hi) (s .args .n .lo) (s .pre .0) (s .pre .1 .0) _ _ (d .digits .ensures .0) _ _ (e .digits2 .ensures .0) (s .args .g) (s .pre .1 .1 .0) (e .digits2 .ensures .1) (s .args .n .cut)

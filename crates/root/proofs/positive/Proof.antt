@@ -1,56 +1,57 @@
--- `root::positive` meets its contract, by `normal-root` and `subnormal-root` of `specs/Patterns.antt`. Assumes nothing.
+-- `root::positive` meets its contract (`specs/RootMethod.antt`). Assumes nothing.
 use borrow.Author.Needs.{needs}
-use mathlib.Core.Path.{_≡_, _∙_, sym, subst}
+use mathlib.Core.Path.{_∙_}
 use native.Mathlib.Omega.{arith}
-use Prim.Native.Nat.{ℕ, _^_, _≤_, _<_}
-use Rattle.root.specs.Patterns.{subnormal-shift, subnormal-word, subnormal-root, normal-root}
+use lib.Dec.{lit<}
+use Rattle.root.specs.RootMethod.{zeros-range, exponents, hi-range, root-found}
 use Rattle.root.proofs.positive.Statement.{statement}
 use Rattle.root.proofs.positive.Tie as tie
 
-some : (x : ℕ) → (x ≡ 0 → ⊥) → 0 < x
-some x h = omega arith
+integer-decode-requires : tie.Need-integer-decode-requires
+integer-decode-requires c κs = search needs
 
 cast-z : tie.Need-cast-z
-cast-z c = let b = c .before .args .b in let h = c .before .pre in omega (arith, subnormal-shift b (h .0) (c .if1 .taken) .below)
+cast-z c = let d = c .before in let h = d .before .pre in omega (arith, zeros-range _ _ _ (d .integer-decode .ensures) (h .1) (h .0) .1)
 
-sub-from-parts : tie.Need-sub-from-parts
-sub-from-parts c = let b = c .before .args .b in let h = c .before .pre in omega (arith, subnormal-shift b (h .0) (c .if1 .taken) .below)
+sub-z : tie.Need-sub-z
+sub-z c = let d = c .before in let h = d .before .pre in zeros-range _ _ _ (d .integer-decode .ensures) (h .1) (h .0) .0
 
-sub-from-parts-2 : tie.Need-sub-from-parts-2
-sub-from-parts-2 c = let b = c .before .args .b in let h = c .before .pre in subnormal-shift b (h .0) (c .if1 .taken) .enough
+add-e : tie.Need-add-e
+add-e c = search needs
 
-shl-from-parts : tie.Need-shl-from-parts
-shl-from-parts c = let b = c .before .args .b in let h = c .before .pre in omega (arith, subnormal-shift b (h .0) (c .if1 .taken) .below)
+sub-e : tie.Need-sub-e
+sub-e c = let d = c .before .before in let h = d .before .pre in exponents _ _ _ (d .integer-decode .ensures) (h .1) (h .0) .0
 
-from-parts-requires : tie.Need-from-parts-requires
-from-parts-requires c κs = let b = c .before .args .b in let h = c .before .pre in let s = subnormal-shift b (h .0) (c .if1 .taken) in let e = subnormal-word b (h .0) (c .if1 .taken) in (omega (arith, s .enough), (subst (λ (x : ℕ). 2 ^ 52 ≤ x) (sym e) (s .parts .low), subst (λ (x : ℕ). x < 2 ^ 53) (sym e) (s .parts .high)))
+add-half-root : tie.Need-add-half-root
+add-half-root c = let d = c .before .before in let h = d .before .pre in omega (arith, zeros-range _ _ _ (d .integer-decode .ensures) (h .1) (h .0) .1)
 
-add-from-parts : tie.Need-add-from-parts
-add-from-parts c = search needs
+shl-half-root : tie.Need-shl-half-root
+shl-half-root c = let d = c .before .before .before in let h = d .before .pre in omega (arith, zeros-range _ _ _ (d .integer-decode .ensures) (h .1) (h .0) .1)
 
-add-from-parts-2 : tie.Need-add-from-parts-2
-add-from-parts-2 c = search needs
+sub-half-root : tie.Need-sub-half-root
+sub-half-root c = let d = c .before .before .before in let h = d .before .pre in omega (arith, exponents _ _ _ (d .integer-decode .ensures) (h .1) (h .0) .1)
 
-from-parts-requires-2 : tie.Need-from-parts-requires-2
-from-parts-requires-2 c κs = search needs
+half-root-requires : tie.Need-half-root-requires
+half-root-requires c κs =
+    let d = c .before .before .before in
+    let h = d .before .pre in
+    let w = hi-range _ _ _ (d .integer-decode .ensures) (h .1) (h .0) in
+    (w .1, (lit< tt, (λ _. w .0, omega (arith, exponents _ _ _ (d .integer-decode .ensures) (h .1) (h .0) .2))))
 
 returns : tie.Need-returns
-returns c = let b = c .before .before .args .b in let h = c .before .before .pre in c .from-parts .ensures ∙ sym (subnormal-root b (h .0) (c .before .if1 .taken) (h .1))
-
-returns-2 : tie.Need-returns-2
-returns-2 c = let b = c .before .before .args .b in let h = c .before .before .pre in c .from-parts2 .ensures ∙ sym (normal-root b (h .1) (some _ (c .before .if1 .left)))
+returns c = let d = c .before .before .before .before in let h = d .before .pre in c .half-root .ensures ∙ root-found _ _ _ (d .integer-decode .ensures) (h .1) (h .0)
 
 pub positive-spec : {M : Type 1} → statement M
 positive-spec =
     tie.close
     (tie.spec
+    integer-decode-requires
     cast-z
-    sub-from-parts
-    sub-from-parts-2
-    shl-from-parts
-    from-parts-requires
-    add-from-parts
-    add-from-parts-2
-    from-parts-requires-2
-    returns
-    returns-2)
+    sub-z
+    add-e
+    sub-e
+    add-half-root
+    shl-half-root
+    sub-half-root
+    half-root-requires
+    returns)
