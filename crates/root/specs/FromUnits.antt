@@ -7,11 +7,12 @@ use native.Mathlib.Decide.{decLe}
 use native.Mathlib.Omega.{arith}
 use lib.Dec.{T, ltb, lt→ltb, lit<}
 use lib.Arith.{le→nltb}
-use lib.Ieee.{Float, inf, binary64, fits, odd, units, ofBits, toBits}
+use lib.Ieee.{Float, nan, inf, fin, binary64, fits, odd, units, ofBits, toBits}
 use lib.Ieee.Bits.{is-true, cond-no, ofBits-toBits}
 use lib.Ieee.Fits.{odd-fits}
 use lib.Ieee.Exact.{HasValue, units-val}
 use lib.Ieee.Positive.{positive, positive-of-value}
+use lib.Ieee.Scale.{finite}
 use lib.Pow.{pow-pos}
 use Rattle.root.specs.Units.{Significand, inUnits, units-of-value, units-top, value-sign, bits-at, top-at}
 use Rattle.root.specs.Nearest.{Candidate}
@@ -92,3 +93,11 @@ module _ (b m e : ℕ) (D : Decodes b m e) (below : b < 0x7FF0_0000_0000_0000) w
 
   pub decoded-positive : 0 < m → T (positive (ofBits binary64 b))
   decoded-positive p = subst (λ (x : Float). T (positive x)) (sym decoded-value) (positive-of-value (units binary64 false m e) (m * 2 ^ e) (2 ^ 1074) (units-value m e decoded-finite) (mul-pos p (pow-pos e)))
+
+  pub decoded-real : T (finite (ofBits binary64 b))
+  decoded-real = subst (λ (x : Float). T (finite x)) (sym decoded-value) (real (units binary64 false m e) (units-value m e decoded-finite))
+    where
+      real : (v : Float) → HasValue v false (m * 2 ^ e) (2 ^ 1074) → T (finite v)
+      real nan h = absurd h
+      real (inf s) h = absurd h
+      real (fin s m e) h = tt

@@ -1,10 +1,11 @@
 -- What is promised of the root and of the size, one field each, and the proofs. docs/PROMISES.md names these fields.
 use mathlib.Core.Path.{_≡_}
 use mathlib.Core.Bool.{Bool, true, false, not, _||_}
-use Prim.Native.Nat.{ℕ, _-_, _*_, _^_, _≤_}
+use mathlib.Core.Logic.{_↔_}
+use Prim.Native.Nat.{ℕ, _-_, _*_, _^_, _≤_, _<_}
 use lib.Dec.{T}
 use lib.IntN.{ℤ, pos}
-use lib.Ieee.{Float, nan, inf, fin, binary64, fits, isNan, lt}
+use lib.Ieee.{Float, nan, inf, fin, binary64, fits, isNan, lt, ofBits}
 use lib.Ieee.Positive.{positive}
 use lib.Ieee.Scale.{finite}
 use Rattle.complex.specs.Complex.{zeroF, oneF}
@@ -16,6 +17,7 @@ use Rattle.root.specs.Nearest.{Candidate, Nearest, squareOfSum}
 use Rattle.root.specs.NearestRoot.{nearestRoot}
 use Rattle.root.specs.Norm as norm
 use Rattle.root.specs.Norm.{sumOfSquares, normOf, infinite}
+use Rattle.root.specs.FromUnits.{Decodes}
 use Rattle.root.specs.Marked as table
 use Rattle.root.specs.Marked.{table, allHold}
 use Rattle.root.specs.Theorems as theorems
@@ -32,11 +34,12 @@ pub record Promised : Type 0 where
   pub root-nan : rootOf nan ≡ nan
   pub root-negative : (x : Float) → T (lt x zeroF) → rootOf x ≡ nan
   pub root-oneF : rootOf oneF ≡ oneF
-  -- the size of two finite parts: the nearest f64 to the root of the exact sum of squares, of which the root is a case; past the largest f64 the infinity
+  -- the size of two finite parts: the nearest f64 to the root of the exact sum of squares, of which the root is a case; past the largest f64, and there alone, the infinity; from 27 exponents apart on the larger part
   pub norm-nearest : (a : Complex) → T (finite (a .re)) → T (finite (a .im)) → Nearest (normOf a) (sumOfSquares (a .re) (a .im))
-  pub norm-overflow : (a : Complex) → T (finite (a .re)) → T (finite (a .im)) → (2 ^ 2098 - 2 ^ 2044) * (2 ^ 2098 - 2 ^ 2044) ≤ sumOfSquares (a .re) (a .im) → normOf a ≡ inf false
+  pub norm-overflow : (a : Complex) → T (finite (a .re)) → T (finite (a .im)) → ((2 ^ 2098 - 2 ^ 2044) * (2 ^ 2098 - 2 ^ 2044) ≤ sumOfSquares (a .re) (a .im)) ↔ (normOf a ≡ inf false)
   pub norm-root : (a : Complex) → T (finite (a .re)) → T (finite (a .im)) → (x : Float) → T (fits binary64 x) → T (positive x) → sumOfSquares (a .re) (a .im) ≡ inUnits x * 2 ^ 1074 → normOf a ≡ rootOf x
   pub root-instance : (x : Float) → T (positive x) → rootOf x ≡ nearestRoot (inUnits x * 2 ^ 1074)
+  pub norm-far : (x y m e n f : ℕ) → Decodes x m e → Decodes y n f → y ≤ x → x < 0x7FF0_0000_0000_0000 → 27 ≤ e - f → normOf (record { re = ofBits binary64 x; im = ofBits binary64 y }) ≡ ofBits binary64 x
   -- an infinite part, else a NaN part; two zeros; a number on the real axis
   pub norm-infinite : (a : Complex) → T (infinite (a .re) || infinite (a .im)) → normOf a ≡ inf false
   pub norm-nan : (a : Complex) → T (not (infinite (a .re) || infinite (a .im))) → T (isNan (a .re) || isNan (a .im)) → normOf a ≡ nan
@@ -59,6 +62,7 @@ promised = record {
   norm-overflow = size.norm-overflow;
   norm-root = size.norm-root;
   root-instance = special.root-instance;
+  norm-far = size.norm-far;
   norm-infinite = norm.norm-infinite;
   norm-nan = norm.norm-nan;
   norm-zero = size.norm-zero;
