@@ -29,21 +29,21 @@ module _ (b m e : ℕ) (D : Decodes b m e) (below : b < 0x7FF0_0000_0000_0000) (
   zeros = leadingZeros 64 m
 
   -- m has 64 - zeros digits, of which j follow the first
-  record Length : Type 0 where
+  record Counted : Type 0 where
     pub j : ℕ
     pub all : zeros + suc j ≡ 64
     pub low : 2 ^ j ≤ m
     pub high : m < 2 ^ suc j
     pub few : j < 53
 
-  length : Length
-  length = let l = leading-top 64 m some (lt-of-lt-of-le (D .few) (lit≤ tt)) in record { j = l .0; all = l .1; low = l .2; high = l .3; few = pow-lt-back (l .0) 53 (lt-of-le-of-lt (l .2) (D .few)) }
+  counted : Counted
+  counted = let l = leading-top 64 m some (lt-of-lt-of-le (D .few) (lit≤ tt)) in record { j = l .0; all = l .1; low = l .2; high = l .3; few = pow-lt-back (l .0) 53 (lt-of-le-of-lt (l .2) (D .few)) }
     where
       pow-lt-back : (i p : ℕ) → 2 ^ i < 2 ^ p → i < p
       pow-lt-back i p h = lt-of-not-le (λ (g : p ≤ i). lt-irrefl (2 ^ i) (lt-of-lt-of-le h (pow-mono g)))
 
   pub zeros-range : (11 ≤ zeros) × (zeros < 64)
-  zeros-range = (omega (arith, length .all, length .few), omega (arith, length .all))
+  zeros-range = (omega (arith, counted .all, counted .few), omega (arith, counted .all))
 
   abbrev z : ℕ
   z = zeros - 11
@@ -59,7 +59,7 @@ module _ (b m e : ℕ) (D : Decodes b m e) (below : b < 0x7FF0_0000_0000_0000) (
 
   moved : (2 ^ 52 ≤ m * 2 ^ z) × (m * 2 ^ z < 2 ^ 53)
   moved =
-      let l = length in
+      let l = counted in
       let d = digits (l .j) (l .all) (zeros-range .0) in
       (subst (λ (x : ℕ). 2 ^ x ≤ m * 2 ^ z) (d .0) (le-trans (le-of-eq (pow-add 2 (l .j) z)) (mul-le-mul-right (2 ^ z) (l .low))), subst (λ (x : ℕ). m * 2 ^ z < 2 ^ x) (d .1) (shl-lt (suc (l .j)) z (l .high)))
     where
