@@ -1,54 +1,19 @@
--- A value by its bit pattern without the sign, which is the pattern's rest by 2 ^ 63: above the infinity's for a NaN, the infinity's for either infinity, below it for a finite value. Assumes nothing.
+-- The size of a number by its parts' bit patterns without their signs, as `norm` finds it. Assumes nothing.
 use borrow.Author.Tests.{eqb-false, ltb-false, eq-eqb, ne-eqb, lt-ltb, le-ltb}
 use mathlib.Core.Path.{_≡_, refl, sym, ap, ap₂, _∙_, subst}
-use mathlib.Core.Bool.{Bool, true, false, _||_, cond, true≢false}
+use mathlib.Core.Bool.{Bool, true, false, _||_, true≢false}
 use Prim.Native.Nat.{ℕ, _+_, _*_, _%_, _^_, _<_}
 use native.Mathlib.Nat.{le-of-eq, le-of-lt, lt-irrefl, lt-trans}
-use native.Mathlib.Omega.{arith}
 use lib.Arith.{lt-of-le-ne}
 use lib.IntN.{ℤ}
-use lib.Dec.{T, ltb, eqb, lit<}
-use lib.Ieee.{Float, nan, inf, fin, binary64, fits, isNan, ne, ofBits, toBits}
-use lib.Ieee.Compare.{differs-from-itself}
+use lib.Dec.{T, ltb, eqb}
+use lib.Ieee.{Float, nan, inf, fin, binary64, fits, isNan, ofBits, toBits}
 use lib.Ieee.Bits.{ofBits-toBits}
-use lib.Ieee.Fits.{inf-fits}
 use Rattle.complex.specs.declared.Complex.{Complex}
-use Rattle.root.specs.Units.{inUnits, unsigned-fits, units-below, bits-lt}
+use Rattle.root.specs.Units.{inUnits, unsigned-fits}
+use Rattle.root.specs.Patterns.{top, without-sign, finite-magnitude, nan-above, infinite-magnitude}
 use Rattle.root.specs.NearestRoot.{nearestRoot}
 use Rattle.root.specs.Norm.{sumOfSquares, normOf, infinite, infinite-part, nan-part, finite-parts}
-
-abbrev pub top : ℕ
-top = 0x7FF0_0000_0000_0000
-
-finite-below : (m : ℕ) (e : ℤ) → T (fits binary64 (fin false m e)) → toBits binary64 (fin false m e) < top
-unfolding toBits inUnits
-finite-below m e h = bits-lt (fin false m e) (inf false) h (inf-fits binary64 false) tt tt (units-below false m e h)
-
-without-sign : (s : Bool) (m : ℕ) (e : ℤ) → T (fits binary64 (fin false m e)) → toBits binary64 (fin s m e) % 2 ^ 63 ≡ toBits binary64 (fin false m e)
-unfolding toBits
-without-sign s m e h = ap (λ (x : ℕ). x % 2 ^ 63) (signed s m e) ∙ cut s (toBits binary64 (fin false m e)) (finite-below m e h)
-  where
-    signed : (s : Bool) (m : ℕ) (e : ℤ) → toBits binary64 (fin s m e) ≡ cond s (2 ^ 63) 0 + toBits binary64 (fin false m e)
-    signed s m e = grouped (cond s (2 ^ 63) 0) _ _
-      where
-        grouped : (S A B : ℕ) → S + A + B ≡ S + (0 + A + B)
-        grouped S A B = omega arith
-
-    cut : (s : Bool) (b : ℕ) → b < top → (cond s (2 ^ 63) 0 + b) % 2 ^ 63 ≡ b
-    cut true b h = omega arith
-    cut false b h = omega arith
-
-finite-magnitude : (s : Bool) (m : ℕ) (e : ℤ) → T (fits binary64 (fin s m e)) → toBits binary64 (fin s m e) % 2 ^ 63 < top
-finite-magnitude s m e h = let u = unsigned-fits s m e h in subst (λ (b : ℕ). b < top) (sym (without-sign s m e u)) (finite-below m e u)
-
-nan-above : top < toBits binary64 nan % 2 ^ 63
-unfolding toBits
-nan-above = lit< tt
-
-infinite-magnitude : (s : Bool) → toBits binary64 (inf s) % 2 ^ 63 ≡ top
-unfolding toBits
-infinite-magnitude true = refl
-infinite-magnitude false = refl
 
 either-sign : (s : Bool) (m : ℕ) (e : ℤ) → inUnits (fin false m e) ≡ inUnits (fin s m e)
 unfolding inUnits
@@ -72,10 +37,6 @@ magnitude-units : (x : Float) → T (fits binary64 x) → toBits binary64 x % 2 
 magnitude-units nan h l = absurd (lt-irrefl top (lt-trans nan-above l))
 magnitude-units (inf s) h l = absurd (lt-irrefl top (subst (λ (b : ℕ). b < top) (infinite-magnitude s) l))
 magnitude-units (fin s m e) h l = let u = unsigned-fits s m e h in ap (λ (b : ℕ). inUnits (ofBits binary64 b)) (without-sign s m e u) ∙ ap inUnits (ofBits-toBits binary64 (fin false m e) u) ∙ either-sign s m e
-
-pub nan-magnitude : (x : Float) → ne x x ≡ true → 0x7FF8_0000_0000_0000 ≡ toBits binary64 x % 2 ^ 63
-unfolding toBits
-nan-magnitude x h = ap (λ (y : Float). toBits binary64 y % 2 ^ 63) (sym (differs-from-itself x (subst T (sym h) tt)))
 
 -- ---- the size of a number by its parts' patterns
 

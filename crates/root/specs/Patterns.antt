@@ -1,116 +1,61 @@
--- The root of the value that a bit pattern b stands for, by the range that b is in: the exponent's field of b is b / 2 ^ 52, and its digits are b % 2 ^ 52. Assumes nothing.
-use mathlib.Core.Path.{_≡_, refl, sym, ap, ap₂, _∙_, subst}
+-- The bit pattern of a value, and that without its sign, which is the pattern's rest by 2 ^ 63: above the infinity's for a NaN, the infinity's for either infinity, below it for a finite value.
+-- And the root of a value by the range that its pattern is in. Assumes nothing.
+use mathlib.Core.Path.{_≡_, refl, sym, ap, _∙_, subst}
 use mathlib.Core.Bool.{Bool, true, false, not, cond, true≢false}
-use mathlib.Core.Logic.{_⊎_, inl, inr}
-use Prim.Native.Nat.{ℕ, zero, suc, _+_, _-_, _*_, _/_, _%_, _^_, _≤_, _<_}
-use native.Mathlib.Nat.{eq-or-lt-of-le, le-of-lt, lt-irrefl, mul-pos, zero-mul}
+use Prim.Native.Nat.{ℕ, zero, suc, _+_, _%_, _^_, _≤_, _<_}
+use native.Mathlib.Nat.{lt-irrefl, lt-trans, not-le-of-lt, zero-mul, zero-div, mod-eq-of-lt}
 use native.Mathlib.Omega.{arith}
-use lib.Dec.{T, leb, eqb, le→leb, eqb→eq, not-T}
-use lib.Arith.{lt→nleb}
-use lib.Pow.{pow-pos}
-use lib.Ieee.{Float, nan, inf, fin, binary64, up, odd, ofFields, ofBits, toBits, isNan, ne, div, fits}
+use lib.Dec.{T, lit<}
+use lib.IntN.{ℤ}
+use lib.Ieee.{Float, nan, inf, fin, binary64, up, down, fits, isNan, ne, div, ofBits, toBits}
 use lib.Ieee.Compare.{differs-from-itself, nan-differs}
-use lib.Ieee.Fits.{down-pos}
-use lib.Ieee.Bits.{is-true, is-false, cond-no, ofBits-toBits}
-use lib.Ieee.Exact.{HasValue, odd-sign}
-use Rattle.root.specs.Root.{rootOf, root-nan, root-inf, root-oneF}
+use lib.Ieee.Bits.{ofBits-toBits}
+use lib.Ieee.Fits.{inf-fits}
+use Rattle.root.specs.Units.{inUnits, unsigned-fits, units-below, bits-lt}
+use Rattle.root.specs.Root.{rootOf, root-nan, root-oneF}
 
--- ---- a pattern's fields
+abbrev pub top : ℕ
+top = 0x7FF0_0000_0000_0000
 
-pub of-fields : (b : ℕ) → b < 2 ^ 63 → ofBits binary64 b ≡ ofFields binary64 false (b / 2 ^ 52) (b % 2 ^ 52)
-unfolding ofBits
-of-fields b h = ap₂ (λ (s : Bool) (x : ℕ). ofFields binary64 s x (b % 2 ^ 52)) (is-false (leb (2 ^ 63) b) (lt→nleb (2 ^ 63) b h)) (ap (λ (x : ℕ). x / 2 ^ 52) (plain b h))
+finite-below : (m : ℕ) (e : ℤ) → T (fits binary64 (fin false m e)) → toBits binary64 (fin false m e) < top
+unfolding toBits inUnits
+finite-below m e h = bits-lt (fin false m e) (inf false) h (inf-fits binary64 false) tt tt (units-below false m e h)
+
+pub without-sign : (s : Bool) (m : ℕ) (e : ℤ) → T (fits binary64 (fin false m e)) → toBits binary64 (fin s m e) % 2 ^ 63 ≡ toBits binary64 (fin false m e)
+unfolding toBits
+without-sign s m e h = ap (λ (x : ℕ). x % 2 ^ 63) (signed s m e) ∙ cut s (toBits binary64 (fin false m e)) (finite-below m e h)
   where
-    plain : (b : ℕ) → b < 2 ^ 63 → b % 2 ^ 63 ≡ b
-    plain b h = omega arith
+    signed : (s : Bool) (m : ℕ) (e : ℤ) → toBits binary64 (fin s m e) ≡ cond s (2 ^ 63) 0 + toBits binary64 (fin false m e)
+    signed s m e = grouped (cond s (2 ^ 63) 0) _ _
+      where
+        grouped : (S A B : ℕ) → S + A + B ≡ S + (0 + A + B)
+        grouped S A B = omega arith
 
-at-zero : (s : Bool) (t : ℕ) → ofFields binary64 s 0 t ≡ odd 53 s t 0 1074
-unfolding ofFields
-at-zero s t = refl
+    cut : (s : Bool) (b : ℕ) → b < top → (cond s (2 ^ 63) 0 + b) % 2 ^ 63 ≡ b
+    cut true b h = omega arith
+    cut false b h = omega arith
 
-pub under-ones : (s : Bool) (x t : ℕ) → suc x < 2047 → ofFields binary64 s (suc x) t ≡ odd 53 s (2 ^ 52 + t) x 1074
-unfolding ofFields
-under-ones s x t h = cond-no (eqb (suc x) 2047) (cond (eqb t 0) (inf s) nan) (odd 53 s (2 ^ 52 + t) x 1074) (not-T (eqb (suc x) 2047) (λ u. no (suc x) (eqb→eq (suc x) 2047 u) h))
-  where
-    no : (y : ℕ) → y ≡ 2047 → y < 2047 → ⊥
-    no y e h = omega arith
+pub finite-magnitude : (s : Bool) (m : ℕ) (e : ℤ) → T (fits binary64 (fin s m e)) → toBits binary64 (fin s m e) % 2 ^ 63 < top
+finite-magnitude s m e h = let u = unsigned-fits s m e h in subst (λ (b : ℕ). b < top) (sym (without-sign s m e u)) (finite-below m e u)
 
-at-ones : (s : Bool) (t : ℕ) → (ofFields binary64 s 2047 t ≡ inf s) ⊎ (ofFields binary64 s 2047 t ≡ nan)
-unfolding ofFields
-at-ones s t = go (eqb t 0)
-  where
-    go : (b : Bool) → (cond b (inf s) nan ≡ inf s) ⊎ (cond b (inf s) nan ≡ nan)
-    go true = inl refl
-    go false = inr refl
+pub nan-above : top < toBits binary64 nan % 2 ^ 63
+unfolding toBits
+nan-above = lit< tt
 
--- ---- a zero, 1, the infinity or a NaN
+pub infinite-magnitude : (s : Bool) → toBits binary64 (inf s) % 2 ^ 63 ≡ top
+unfolding toBits
+infinite-magnitude true = refl
+infinite-magnitude false = refl
 
-pub zero-root : (b : ℕ) → b ≡ 0 → rootOf (ofBits binary64 b) ≡ ofBits binary64 b
-unfolding rootOf ofBits
-zero-root b e = subst (λ (x : ℕ). rootOf (ofBits binary64 x) ≡ ofBits binary64 x) (sym e) refl
+minus-zero : (e : ℤ) → toBits binary64 (fin true zero e) ≡ 2 ^ 63
+unfolding toBits
+minus-zero e = rw (zero-mul (up e), zero-div (down e)) refl
 
-pub minus-zero-root : (b : ℕ) → b ≡ 2 ^ 63 → rootOf (ofBits binary64 b) ≡ ofBits binary64 b
-unfolding rootOf ofBits
-minus-zero-root b e = subst (λ (x : ℕ). rootOf (ofBits binary64 x) ≡ ofBits binary64 x) (sym e) refl
+-- ---- what the test `x != x` says
 
-pub one-root : (b : ℕ) → b ≡ 0x3FF0_0000_0000_0000 → rootOf (ofBits binary64 b) ≡ ofBits binary64 b
-one-root b e = subst (λ (x : ℕ). rootOf (ofBits binary64 x) ≡ ofBits binary64 x) (sym e) root-oneF
-
-pub top-root : (b : ℕ) → 0x7FF0_0000_0000_0000 ≤ b → b < 2 ^ 63 → rootOf (ofBits binary64 b) ≡ ofBits binary64 b
-top-root b h k = subst (λ (v : Float). rootOf v ≡ v) (sym (of-fields b k ∙ ap (λ (x : ℕ). ofFields binary64 false x (b % 2 ^ 52)) (field b h k))) (itself (at-ones false (b % 2 ^ 52)))
-  where
-    field : (b : ℕ) → 0x7FF0_0000_0000_0000 ≤ b → b < 2 ^ 63 → b / 2 ^ 52 ≡ 2047
-    field b h k = omega arith
-
-    itself : (ofFields binary64 false 2047 (b % 2 ^ 52) ≡ inf false) ⊎ (ofFields binary64 false 2047 (b % 2 ^ 52) ≡ nan) → rootOf (ofFields binary64 false 2047 (b % 2 ^ 52)) ≡ ofFields binary64 false 2047 (b % 2 ^ 52)
-    itself (inl e) = subst (λ (v : Float). rootOf v ≡ v) (sym e) root-inf
-    itself (inr e) = subst (λ (v : Float). rootOf v ≡ v) (sym e) root-nan
-
--- ---- a value below zero
-
-leading-pos : (t : ℕ) → 0 < 2 ^ 52 + t
-leading-pos t = omega arith
-
-minus-root : (x : Float) (a c : ℕ) → HasValue x true a c → 0 < a → rootOf x ≡ nan
-unfolding rootOf
-minus-root nan a c h A = refl
-minus-root (inf s) a c h A = absurd h
-minus-root (fin s zero e) a c h A = absurd (lt-irrefl 0 (subst (λ (x : ℕ). 0 < x) (sym (h .1) ∙ ap (λ (x : ℕ). x * c) (zero-mul (up e)) ∙ zero-mul c) (mul-pos A (down-pos e))))
-minus-root (fin true (suc m) e) a c h A = refl
-minus-root (fin false (suc m) e) a c h A = absurd (true≢false (sym (h .0)))
-
-pub below-root : (b : ℕ) → 2 ^ 63 < b → b < 2 ^ 64 → rootOf (ofBits binary64 b) ≡ nan
-unfolding ofBits rootOf
-below-root b h k =
-    ap rootOf (ap (λ (s : Bool). ofFields binary64 s (b % 2 ^ 63 / 2 ^ 52) (b % 2 ^ 52)) (is-true (leb (2 ^ 63) b) (le→leb (2 ^ 63) b (le-of-lt h))))
-    ∙ at (b % 2 ^ 63 / 2 ^ 52) (b % 2 ^ 52) (field b) (some b h k)
-  where
-    field : (b : ℕ) → b % 2 ^ 63 / 2 ^ 52 ≤ 2047
-    field b = omega arith
-
-    some : (b : ℕ) → 2 ^ 63 < b → b < 2 ^ 64 → 0 < b % 2 ^ 63 / 2 ^ 52 + b % 2 ^ 52
-    some b h k = omega arith
-
-    top : (t : ℕ) → (ofFields binary64 true 2047 t ≡ inf true) ⊎ (ofFields binary64 true 2047 t ≡ nan) → rootOf (ofFields binary64 true 2047 t) ≡ nan
-    top t (inl e) = ap rootOf e
-    top t (inr e) = ap rootOf e
-
-    at : (x t : ℕ) → x ≤ 2047 → 0 < x + t → rootOf (ofFields binary64 true x t) ≡ nan
-    at zero t h p = ap rootOf (at-zero true t) ∙ minus-root (odd 53 true t 0 1074) (t * 2 ^ 0) (2 ^ 1074) (odd-sign 53 true t 0 1074) (mul-pos (omega arith) (pow-pos 0))
-    at (suc x) t h p = elim (eq-or-lt-of-le h) [
-      | inl e ↦ subst (λ (y : ℕ). rootOf (ofFields binary64 true y t) ≡ nan) (sym e) (top t (at-ones true t))
-      | inr l ↦ ap rootOf (under-ones true x t l) ∙ minus-root (odd 53 true (2 ^ 52 + t) x 1074) ((2 ^ 52 + t) * 2 ^ x) (2 ^ 1074) (odd-sign 53 true (2 ^ 52 + t) x 1074) (mul-pos (leading-pos t) (pow-pos x))
-    ]
-
--- 0.0 / 0.0, which the program returns there
-pub no-root : div binary64 (ofBits binary64 0) (ofBits binary64 0) ≡ nan
-unfolding div ofBits
-no-root = refl
-
--- ---- a value by its pattern, where the test `x != x` says that it is no NaN
-
-pub nan-root : (x : Float) → ne x x ≡ true → x ≡ rootOf x
-nan-root x h = let e : x ≡ nan = differs-from-itself x (subst T (sym h) tt) in e ∙ sym (ap rootOf e ∙ root-nan)
+pub nan-magnitude : (x : Float) → ne x x ≡ true → 0x7FF8_0000_0000_0000 ≡ toBits binary64 x % 2 ^ 63
+unfolding toBits
+nan-magnitude x h = ap (λ (y : Float). toBits binary64 y % 2 ^ 63) (sym (differs-from-itself x (subst T (sym h) tt)))
 
 pub not-nan : (x : Float) → ne x x ≡ false → T (not (isNan x))
 unfolding isNan
@@ -118,9 +63,43 @@ not-nan nan h = absurd (true≢false (sym nan-differs ∙ h))
 not-nan (inf s) h = tt
 not-nan (fin s m e) h = tt
 
-module _ (x : Float) (held : T (fits binary64 x)) where
-  pub by-pattern : (y : Float) → rootOf (ofBits binary64 (toBits binary64 x)) ≡ y → rootOf x ≡ y
-  by-pattern y e = ap rootOf (sym (ofBits-toBits binary64 x held)) ∙ e
+-- ---- the root of x by its pattern
 
-  pub same-by-pattern : rootOf (ofBits binary64 (toBits binary64 x)) ≡ ofBits binary64 (toBits binary64 x) → x ≡ rootOf x
-  same-by-pattern e = sym (by-pattern x (e ∙ ofBits-toBits binary64 x held))
+pub nan-root : (x : Float) → ne x x ≡ true → x ≡ rootOf x
+nan-root x h = let e : x ≡ nan = differs-from-itself x (subst T (sym h) tt) in e ∙ sym (ap rootOf e ∙ root-nan)
+
+module _ (x : Float) (held : T (fits binary64 x)) where
+  itself : (b : ℕ) → rootOf (ofBits binary64 b) ≡ ofBits binary64 b → toBits binary64 x ≡ b → x ≡ rootOf x
+  itself b r e = let v : x ≡ ofBits binary64 b = sym (ofBits-toBits binary64 x held) ∙ ap (ofBits binary64) e in v ∙ sym r ∙ ap rootOf (sym v)
+
+  pub zero-root : toBits binary64 x ≡ 0 → x ≡ rootOf x
+  unfolding rootOf ofBits
+  zero-root = itself 0 refl
+
+  pub minus-zero-root : toBits binary64 x ≡ 2 ^ 63 → x ≡ rootOf x
+  unfolding rootOf ofBits
+  minus-zero-root = itself (2 ^ 63) refl
+
+  pub one-root : toBits binary64 x ≡ 0x3FF0_0000_0000_0000 → x ≡ rootOf x
+  one-root = itself 0x3FF0_0000_0000_0000 root-oneF
+
+pub below-root : (x : Float) → T (fits binary64 x) → 2 ^ 63 < toBits binary64 x → nan ≡ rootOf x
+unfolding rootOf toBits
+below-root nan h l = refl
+below-root (inf true) h l = refl
+below-root (inf false) h l = absurd (omega arith)
+below-root (fin true zero e) h l = absurd (lt-irrefl (2 ^ 63) (subst (λ (b : ℕ). 2 ^ 63 < b) (minus-zero e) l))
+below-root (fin true (suc m) e) h l = refl
+below-root (fin false m e) h l = absurd (lt-irrefl (2 ^ 63) (lt-trans l (lt-trans (finite-below m e h) (lit< tt))))
+
+pub top-root : (x : Float) → T (fits binary64 x) → top ≤ toBits binary64 x → toBits binary64 x < 2 ^ 63 → x ≡ rootOf x
+unfolding rootOf toBits
+top-root nan h l k = refl
+top-root (inf true) h l k = absurd (omega arith)
+top-root (inf false) h l k = refl
+top-root (fin s m e) h l k = absurd (not-le-of-lt (finite-magnitude s m e h) (subst (λ (b : ℕ). top ≤ b) (sym (mod-eq-of-lt k)) l))
+
+-- 0.0 / 0.0, which the program returns where there is no root and no size
+pub no-root : div binary64 (ofBits binary64 0) (ofBits binary64 0) ≡ nan
+unfolding div ofBits
+no-root = refl

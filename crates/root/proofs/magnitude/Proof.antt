@@ -2,8 +2,7 @@
 use mathlib.Core.Path.{refl, sym, subst}
 use lib.Dec.{T}
 use lib.Ieee.{binary64, fits}
-use Rattle.root.specs.Patterns.{not-nan}
-use Rattle.root.specs.Magnitude.{nan-magnitude}
+use Rattle.root.specs.Patterns.{not-nan, nan-magnitude}
 use Rattle.root.proofs.magnitude.Statement.{statement}
 use Rattle.root.proofs.magnitude.Tie as tie
 

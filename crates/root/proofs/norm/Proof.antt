@@ -8,11 +8,11 @@ use native.Mathlib.Nat.{le-refl, le-of-lt, add-comm}
 use lib.Dec.{eqb, ltb}
 use lib.Ieee.{binary64, ofBits}
 use Rattle.root.specs.Units.{pattern-real}
-use Rattle.root.specs.Patterns.{no-root}
+use Rattle.root.specs.Patterns.{top, no-root}
 use Rattle.root.specs.NearestRoot.{nearestRoot}
 use Rattle.root.specs.Norm.{sumOfSquares, normOf}
 use Rattle.root.specs.FromUnits.{top-value}
-use Rattle.root.specs.Magnitude.{top, size-infinite, size-nan, patterns-below, size-finite}
+use Rattle.root.specs.Magnitude.{size-infinite, size-nan, patterns-below, size-finite}
 use Rattle.root.proofs.norm.Statement.{statement}
 use Rattle.root.proofs.norm.Tie as tie
 

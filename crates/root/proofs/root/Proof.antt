@@ -1,12 +1,12 @@
--- `root::root` meets its contract: a value that is no NaN is read back from its pattern, and each range of patterns has its law in `specs/Patterns.antt`. Assumes nothing.
+-- `root::root` meets its contract: each range of patterns has its law in `specs/Patterns.antt`. Assumes nothing.
 use borrow.Author.Needs.{needs}
 use mathlib.Core.Path.{_∙_, ap, sym, subst}
 use lib.Dec.{T}
-use lib.Ieee.{binary64, fits, toBits}
-use lib.Ieee.Bits.{ofBits-toBits, toBits-lt}
+use lib.Ieee.{binary64, fits}
+use lib.Ieee.Bits.{ofBits-toBits}
 use Rattle.root.specs.Root.{rootOf}
 use native.Mathlib.Omega.{arith}
-use Rattle.root.specs.Patterns.{not-nan, nan-root, by-pattern, same-by-pattern, no-root, zero-root, minus-zero-root, one-root, below-root, top-root}
+use Rattle.root.specs.Patterns.{not-nan, nan-root, no-root, zero-root, minus-zero-root, one-root, below-root, top-root}
 use Rattle.root.proofs.root.Statement.{statement}
 use Rattle.root.proofs.root.Tie as tie
 
@@ -21,19 +21,19 @@ float-to-bits-b : tie.Need-float-to-bits-b
 float-to-bits-b c = not-nan (c .before .args .x) (c .if1 .left)
 
 returns-2 : tie.Need-returns-2
-returns-2 c = let s = c .before .before in same-by-pattern (s .args .x) (held s) (zero-root (toBits binary64 (s .args .x)) (c .if2 .taken))
+returns-2 c = let s = c .before .before in zero-root (s .args .x) (held s) (c .if2 .taken)
 
 returns-3 : tie.Need-returns-3
-returns-3 c = let s = c .before .before .before in same-by-pattern (s .args .x) (held s) (minus-zero-root (toBits binary64 (s .args .x)) (c .if3 .taken))
+returns-3 c = let s = c .before .before .before in minus-zero-root (s .args .x) (held s) (c .if3 .taken)
 
 returns-4 : tie.Need-returns-4
-returns-4 c = let s = c .before .before .before .before in no-root ∙ sym (by-pattern (s .args .x) (held s) _ (below-root (toBits binary64 (s .args .x)) (c .if4 .taken) (toBits-lt binary64 (s .args .x) (held s))))
+returns-4 c = let s = c .before .before .before .before in no-root ∙ below-root (s .args .x) (held s) (c .if4 .taken)
 
 returns-5 : tie.Need-returns-5
-returns-5 c = let s = c .before .before .before .before .before in same-by-pattern (s .args .x) (held s) (top-root (toBits binary64 (s .args .x)) (c .if5 .taken) (omega (arith, c .before .if4 .left, c .before .before .if3 .left)))
+returns-5 c = let s = c .before .before .before .before .before in top-root (s .args .x) (held s) (c .if5 .taken) (omega (arith, c .before .if4 .left, c .before .before .if3 .left))
 
 returns-6 : tie.Need-returns-6
-returns-6 c = let s = c .before .before .before .before .before .before in same-by-pattern (s .args .x) (held s) (one-root (toBits binary64 (s .args .x)) (c .if6 .taken))
+returns-6 c = let s = c .before .before .before .before .before .before in one-root (s .args .x) (held s) (c .if6 .taken)
 
 positive-requires : tie.Need-positive-requires
 positive-requires c κs = search needs
