@@ -4,7 +4,8 @@ use mathlib.Core.Path.{_≡_, refl, sym, ap, _∙_, subst}
 use mathlib.Core.Bool.{Bool, false}
 use mathlib.Core.Logic.{_↔_}
 use Prim.Native.Nat.{ℕ, _-_, _*_, _^_, _≤_, _<_}
-use native.Mathlib.Nat.{add-zero, lt-of-le-of-lt}
+use native.Mathlib.Nat.{add-zero, add-comm, lt-of-le-of-lt}
+use native.Mathlib.Omega.{arith}
 use lib.Dec.{T}
 use lib.IntN.{ℤ, pos}
 use lib.Ieee.{Float, inf, fin, binary64, fits, isNan, ofBits}
@@ -51,6 +52,11 @@ pub norm-of-real : (s t : Bool) (m : ℕ) (e : ℤ) → T (fits binary64 (fin s 
 unfolding inUnits
 norm-of-real s t m e h = norm-exact (record { re = fin s m e; im = fin t 0 (pos 0) }) tt tt (fin false m e) (record { held = unsigned-fits s m e h; sign = tt }) (add-zero (inUnits (fin false m e) * inUnits (fin false m e)))
 
--- from 27 exponents apart on the larger part is the size, x and y being patterns of parts that are not negative
-pub norm-far : (x y m e n f : ℕ) → Decodes x m e → Decodes y n f → y ≤ x → x < 0x7FF0_0000_0000_0000 → 27 ≤ e - f → normOf (record { re = ofBits binary64 x; im = ofBits binary64 y }) ≡ ofBits binary64 x
-norm-far x y m e n f X Y ordered below h = norm-finite (record { re = ofBits binary64 x; im = ofBits binary64 y }) (decoded-real x m e X below) (decoded-real y n f Y (lt-of-le-of-lt ordered below)) ∙ sym (far x y m e n f X Y ordered below h)
+-- from 27 exponents apart on the larger part is the size, whichever it is; x and y are patterns of parts that are not negative
+pub norm-far : (x y m e n f : ℕ) → Decodes x m e → Decodes y n f → x < 0x7FF0_0000_0000_0000 → 27 ≤ e - f → (normOf (record { re = ofBits binary64 x; im = ofBits binary64 y }) ≡ ofBits binary64 x) × (normOf (record { re = ofBits binary64 y; im = ofBits binary64 x }) ≡ ofBits binary64 x)
+norm-far x y m e n f X Y below h =
+    let ordered : y ≤ x = omega (arith, X .value, Y .value, Y .few, h) in
+    let p = decoded-real x m e X below in
+    let q = decoded-real y n f Y (lt-of-le-of-lt ordered below) in
+    let larger = sym (far x y m e n f X Y ordered below h) in
+    (norm-finite (record { re = ofBits binary64 x; im = ofBits binary64 y }) p q ∙ larger, norm-finite (record { re = ofBits binary64 y; im = ofBits binary64 x }) q p ∙ ap nearestRoot (add-comm _ _) ∙ larger)

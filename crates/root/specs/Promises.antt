@@ -39,7 +39,7 @@ pub record Promised : Type 0 where
   pub norm-overflow : (a : Complex) → T (finite (a .re)) → T (finite (a .im)) → ((2 ^ 2098 - 2 ^ 2044) * (2 ^ 2098 - 2 ^ 2044) ≤ sumOfSquares (a .re) (a .im)) ↔ (normOf a ≡ inf false)
   pub norm-root : (a : Complex) → T (finite (a .re)) → T (finite (a .im)) → (x : Float) → T (fits binary64 x) → T (positive x) → sumOfSquares (a .re) (a .im) ≡ inUnits x * 2 ^ 1074 → normOf a ≡ rootOf x
   pub root-instance : (x : Float) → T (positive x) → rootOf x ≡ nearestRoot (inUnits x * 2 ^ 1074)
-  pub norm-far : (x y m e n f : ℕ) → Decodes x m e → Decodes y n f → y ≤ x → x < 0x7FF0_0000_0000_0000 → 27 ≤ e - f → normOf (record { re = ofBits binary64 x; im = ofBits binary64 y }) ≡ ofBits binary64 x
+  pub norm-far : (x y m e n f : ℕ) → Decodes x m e → Decodes y n f → x < 0x7FF0_0000_0000_0000 → 27 ≤ e - f → (normOf (record { re = ofBits binary64 x; im = ofBits binary64 y }) ≡ ofBits binary64 x) × (normOf (record { re = ofBits binary64 y; im = ofBits binary64 x }) ≡ ofBits binary64 x)
   -- an infinite part, else a NaN part; two zeros; a number on the real axis
   pub norm-infinite : (a : Complex) → T (infinite (a .re) || infinite (a .im)) → normOf a ≡ inf false
   pub norm-nan : (a : Complex) → T (not (infinite (a .re) || infinite (a .im))) → T (isNan (a .re) || isNan (a .im)) → normOf a ≡ nan

@@ -121,7 +121,7 @@ fn integer_decode(b: u64) -> Decoded
 // ---- the square root
 
 // The root of a finite value above zero, by its bit pattern. Four times the value is c * 2^e squares of a unit, where c is
-// the significand moved up to 53 binary digits; moved up once more where e is odd, it has the half of an even exponent.
+// the significand moved up to 53 binary digits. Where e is odd it is moved up once more, so that the exponent can be halved.
 fn positive(b: u64) -> f64
     requires { ⌜ 0 < b ⌝ }
     requires { ⌜ b < 0x7ff0_0000_0000_0000 ⌝ }
