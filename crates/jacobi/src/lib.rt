@@ -47,16 +47,15 @@ fn skipped(g: Gram) -> bool
     norm_sqr(g.pq) <= JACOBI_REL_TOL * JACOBI_REL_TOL * g.pp * g.qq
 }
 
-// The tangent of the rotation's angle, of smaller magnitude.
+// The tangent of the rotation's angle, of smaller magnitude. No branch goes around the division, since nothing foretells
+// the sign of tau.
 fn tangent(tau: f64) -> f64
     ensures { λ r. ⌜ r ≡ jacobi.tangent tau ⌝ }
 {
     let far = root(1.0 + tau * tau);
-    if tau >= 0.0 {
-        -1.0 / (tau + far)
-    } else {
-        1.0 / (-tau + far)
-    }
+    let sign = if tau >= 0.0 { -1.0 } else { 1.0 };
+    let size = if tau >= 0.0 { tau } else { -tau };
+    sign / (size + far)
 }
 
 // The rotation that makes the pair orthogonal.

@@ -1,20 +1,25 @@
 -- Half of a whole root, rounded, as a value: where the whole root is of four times an exact square, that value is the one nearest to the square's root.
 -- The program finds it so (`half_root`), and the definition `nearestRoot` is one case of it (`NearestRootLaws.antt`). Assumes nothing.
+use borrow.Author.Tests.{ltb-true}
 use mathlib.Core.Path.{_≡_, refl, sym, ap, _∙_, subst}
-use mathlib.Core.Bool.{Bool, false, _||_}
+use mathlib.Core.Bool.{Bool, true, false, _&&_, _||_, or-true, and-eq-true-iff}
+use mathlib.Core.Logic.{inl, inr}
 use Prim.Native.Nat.{ℕ, suc, _+_, _-_, _*_, _/_, _%_, _^_, _≤_, _<_}
-use native.Mathlib.Nat.{zero-add, le-refl, le-trans, le-of-eq, le-of-suc-le-suc, lt-of-le-of-lt, lt-of-lt-of-le, lt-of-not-le, le-of-mul-le-mul-left, mul-le-mul, add-le-add}
+use native.Mathlib.Nat.{zero-add, le-refl, le-trans, le-of-eq, le-of-suc-le-suc, lt-trans, lt-of-le-of-lt, lt-of-lt-of-le, lt-of-not-le, eq-or-lt-of-le, le-of-mul-le-mul-left, mul-le-mul, add-le-add}
 use native.Mathlib.Decide.{decLe}
 use native.Mathlib.Omega.{arith}
-use lib.Dec.{ltb, lit<}
+use lib.Dec.{ltb, lt→ltb, lit<}
+use lib.Ieee.Bits.{is-true}
 use lib.Ieee.{Float, binary64, units}
 use Rattle.root.specs.Units.{Significand, inUnits, units-short}
 use Rattle.root.specs.Whole.{IsRoot, RootRest, wholeRoot, whole-root, root-of-rest, rest-of-root, only-root, side-lt}
-use Rattle.root.specs.NearestHalf.{nearestHalf, half-few, half-least, nearest-above, nearest-below}
+use Rattle.root.specs.NearestHalf.{nearestHalf, half-more, half-even, half-few, half-least, nearest-above, nearest-below}
 use Rattle.root.specs.Nearest.{Even, Nearest}
 use Rattle.root.specs.NearestLaws.{overflow}
 use Rattle.root.specs.FromUnits.{units-count, units-candidate, units-bits, units-infinite}
 use Rattle.root.specs.Cut.{Cut}
+use Rattle.root.specs.Wide.{whole}
+use Rattle.root.specs.declared.Wide.{Wide}
 
 -- half of N's root, rounded, times 2 ^ g units; cut says that something was cut off below N
 unfoldable pub halfRoot : ℕ → Bool → ℕ → Float
@@ -84,6 +89,48 @@ module _ (q g N : ℕ) (cut : Bool) (C : Cut (4 * q) (2 ^ g * 2 ^ g) N cut) (hig
   pub cut-nearest : Nearest (halfRoot N cut g) q
   unfolding halfRoot
   cut-nearest = rw (C .left) (half-nearest q g w (N - w * w) (subst (λ (x : ℕ). RootRest x w (N - w * w)) (C .value) (rest-of-root N w is-root)) (λ p. le-of-suc-le-suc (side-lt (2 ^ 53) (suc w) (lt-of-le-of-lt (low p) (is-root .high)))) (side-lt w (2 ^ 54) (lt-of-le-of-lt (is-root .low) high)))
+
+-- n is strictly between the squares of 2 * h - 1 and 2 * h + 1; then half of its root is rounded to h, whatever is cut off
+module _ (n : Wide) (g h : ℕ) (H : n .hi < 2 ^ 54) (L : n .lo < 2 ^ 54) (full : 0 < g → 2 ^ 52 ≤ n .hi) (some : 0 < h) (t : (ltb ((2 * h - 1) * (2 * h - 1)) (whole n) && ltb (whole n) ((2 * h + 1) * (2 * h + 1))) ≡ true) where
+  both : (ltb ((2 * h - 1) * (2 * h - 1)) (whole n) ≡ true) × (ltb (whole n) ((2 * h + 1) * (2 * h + 1)) ≡ true)
+  both = and-eq-true-iff (ltb ((2 * h - 1) * (2 * h - 1)) (whole n)) (ltb (whole n) ((2 * h + 1) * (2 * h + 1))) .0 t
+
+  above : (2 * h - 1) * (2 * h - 1) < whole n
+  above = ltb-true _ _ (both .0)
+
+  below : whole n < (2 * h + 1) * (2 * h + 1)
+  below = ltb-true _ _ (both .1)
+
+  abbrev v : ℕ
+  v = wholeRoot 54 (whole n)
+
+  root-v : IsRoot (whole n) v
+  root-v = whole-root 54 (whole n) (omega (arith, H, L))
+
+  abbrev more : Bool
+  more = n .cut || ltb 0 (whole n - v * v)
+
+  is-half : nearestHalf v more ≡ h
+  is-half = elim (eq-or-lt-of-le (le-of-suc-le-suc (side-lt (2 * h - 1) (suc v) (lt-trans above (root-v .high))))) [
+    | inl e ↦ ap (nearestHalf v) (some-more (omega (arith, subst (λ (x : ℕ). x * x < whole n) e above))) ∙ half-more v ∙ odd v e
+    | inr l ↦ ap (λ (x : ℕ). nearestHalf x more) (even v l (side-lt v (2 * h + 1) (lt-of-le-of-lt (root-v .low) below))) ∙ half-even h more
+  ]
+    where
+      some-more : 0 < whole n - v * v → more ≡ true
+      some-more p = ap (λ (b : Bool). n .cut || b) (is-true (ltb 0 (whole n - v * v)) (lt→ltb 0 (whole n - v * v) p)) ∙ or-true (n .cut)
+
+      odd : (v : ℕ) → 2 * h - 1 ≡ v → (v + 1) / 2 ≡ h
+      odd v e = omega (arith, some)
+
+      even : (v : ℕ) → 2 * h - 1 < v → v < 2 * h + 1 → v ≡ 2 * h
+      even v l k = omega (arith, some)
+
+  pub tested-digits : Significand h g
+  tested-digits = subst (λ (x : ℕ). Significand x g) is-half (half-few v more (side-lt v (2 ^ 54) (lt-of-le-of-lt (root-v .low) (omega (arith, H, L)))), λ p. half-least v more (le-of-suc-le-suc (side-lt (2 ^ 53) (suc v) (lt-of-le-of-lt (omega (arith, full p)) (root-v .high)))))
+
+  pub tested : units binary64 false h g ≡ halfRoot (whole n) (n .cut) g
+  unfolding halfRoot
+  tested = ap (λ (x : ℕ). units binary64 false x g) (sym is-half)
 
 -- the digits of hi, and then those of lo, are found in two runs
 module _ (hi lo : ℕ) (H : hi < 2 ^ 54) (L : lo < 2 ^ 54) (p s : ℕ) (P : RootRest ((0 * 0 + 0) * 2 ^ 54 + hi) p s) where

@@ -1,9 +1,9 @@
 -- The size of a number by its parts' bit patterns without their signs, as `norm` finds it. Assumes nothing.
-use borrow.Author.Tests.{eqb-false, ltb-false, eq-eqb, ne-eqb, lt-ltb, le-ltb}
+use borrow.Author.Tests.{eqb-false, ltb-true, ltb-false, eq-eqb, ne-eqb, lt-ltb, le-ltb}
 use mathlib.Core.Path.{_≡_, refl, sym, ap, ap₂, _∙_, subst}
-use mathlib.Core.Bool.{Bool, true, false, _||_, true≢false}
-use Prim.Native.Nat.{ℕ, _+_, _*_, _%_, _^_, _<_}
-use native.Mathlib.Nat.{le-of-eq, le-of-lt, lt-irrefl, lt-trans}
+use mathlib.Core.Bool.{Bool, true, false, cond, _||_, true≢false}
+use Prim.Native.Nat.{ℕ, _+_, _*_, _%_, _^_, _≤_, _<_}
+use native.Mathlib.Nat.{add-comm, le-of-eq, le-of-lt, lt-irrefl, lt-trans}
 use lib.Arith.{lt-of-le-ne}
 use lib.IntN.{ℤ}
 use lib.Dec.{T, ltb, eqb}
@@ -70,3 +70,20 @@ module _ (a : Complex) (b c : ℕ) (R : b ≡ toBits binary64 (a .re) % 2 ^ 63) 
         where
           units : (x : Float) (b : ℕ) → b ≡ toBits binary64 x % 2 ^ 63 → T (fits binary64 x) → b < top → inUnits (ofBits binary64 b) ≡ inUnits x
           units x b e h l = ap (λ (z : ℕ). inUnits (ofBits binary64 z)) e ∙ magnitude-units x h (subst (λ (z : ℕ). z < top) e l)
+
+-- ---- two patterns, the larger one first
+
+module _ (x y l s : ℕ) (L : l ≡ cond (ltb x y) y x) (S : s ≡ cond (ltb x y) x y) where
+  pub in-order : x < top → y < top → (s ≤ l) × (l < top)
+  in-order h k = rw (L, S) (at (ltb x y) refl)
+    where
+      at : (b : Bool) → ltb x y ≡ b → (cond b x y ≤ cond b y x) × (cond b y x < top)
+      at true e = (le-of-lt (ltb-true x y e), k)
+      at false e = (ltb-false x y e, h)
+
+  pub either-order : sumOfSquares (ofBits binary64 l) (ofBits binary64 s) ≡ sumOfSquares (ofBits binary64 x) (ofBits binary64 y)
+  either-order = rw (L, S) (at (ltb x y))
+    where
+      at : (b : Bool) → sumOfSquares (ofBits binary64 (cond b y x)) (ofBits binary64 (cond b x y)) ≡ sumOfSquares (ofBits binary64 x) (ofBits binary64 y)
+      at true = add-comm _ _
+      at false = refl

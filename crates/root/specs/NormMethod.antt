@@ -1,9 +1,9 @@
 -- What `finite_norm` does: four times the sum of two squares in units of the larger one's last digit squared, cut to a whole number, and half of its root; and why, from 27 exponents apart on, the larger part is the answer.
 -- Both are nearest, and so is `nearestRoot`, so they are equal. Assumes nothing.
-use mathlib.Core.Path.{_≡_, sym, ap, ap₂, _∙_, subst}
+use mathlib.Core.Path.{_≡_, refl, sym, ap, ap₂, _∙_, subst}
 use mathlib.Core.Bool.{Bool, false, _||_}
-use Prim.Native.Nat.{ℕ, _+_, _-_, _*_, _/_, _%_, _^_, _≤_, _<_, zero-le}
-use native.Mathlib.Nat.{le-trans, le-of-eq, lt-of-le-of-lt, lt-of-lt-of-le, mul-pos, mul-le-mul, mul-le-mul-left, le-add-right, div-lt-iff-lt-mul, div-le-self, le-of-suc-le-suc, lt-of-not-le}
+use Prim.Native.Nat.{ℕ, zero, suc, _+_, _-_, _*_, _/_, _%_, _^_, _≤_, _<_, zero-le}
+use native.Mathlib.Nat.{le-trans, le-of-eq, lt-of-le-of-lt, lt-of-lt-of-le, mul-pos, mul-le-mul, mul-le-mul-left, mul-mul-mul-comm, le-add-right, div-lt-iff-lt-mul, div-le-self, le-of-suc-le-suc, lt-of-not-le}
 use native.Mathlib.Omega.{arith}
 use lib.Dec.{ltb, lit<}
 use lib.Pow.{pow-pos, pow-add, pow-mono}
@@ -113,29 +113,33 @@ module _ (x y a e b f : ℕ) (X : Decodes x a e) (Y : Decodes y b f) (ordered : 
   pub sum-low : 0 < e → 2 ^ 106 ≤ total
   sum-low p = let A : 2 ^ 53 ≤ 2 * a = omega (arith, X .full p) in le-trans (mul-le-mul A A) (le-add-right (square a) (square b / 4 ^ distance))
 
-  pub near : total < 2 ^ 108 → halfRoot total cut e ≡ nearestRoot exact
-  near h = found (halfRoot total cut e) (cut-nearest exact e total cut sum-cut h sum-low)
-
   pub sum-high : total < 2 ^ 109
   sum-high = below-both (square a) (square b) (square b / 4 ^ distance) (square-below a (X .few)) (square-below b (Y .few)) (div-le-self (square b) (4 ^ distance))
     where
       below-both : (A B C : ℕ) → A < 2 ^ 108 → B < 2 ^ 108 → C ≤ B → A + C < 2 ^ 109
       below-both A B C h k l = omega arith
 
-  pub near-longer : 2 ^ 108 ≤ total → halfRoot (total / 4 ^ 1) (cut || ltb 0 (total % 4 ^ 1)) (e + 1) ≡ nearestRoot exact
-  near-longer h = found _ (cut-nearest exact (e + 1) (total / 4 ^ 1) (cut || ltb 0 (total % 4 ^ 1)) again (quarter-lt total sum-high) (λ _. quarter-ge total h))
+  -- N / 4 ^ j has 108 digits at most, where j is the digit that N has more than those
+  pub near : (j : ℕ) → total / 4 ^ j < 2 ^ 108 → (0 < e + j → 2 ^ 106 ≤ total / 4 ^ j) → halfRoot (total / 4 ^ j) (cut || ltb 0 (total % 4 ^ j)) (e + j) ≡ nearestRoot exact
+  near j high low = found _ (cut-nearest exact (e + j) (total / 4 ^ j) (cut || ltb 0 (total % 4 ^ j)) again high low)
     where
-      again : Cut (4 * exact) (2 ^ (e + 1) * 2 ^ (e + 1)) (total / 4 ^ 1) (cut || ltb 0 (total % 4 ^ 1))
-      again = subst (λ (d : ℕ). Cut (4 * exact) d (total / 4 ^ 1) (cut || ltb 0 (total % 4 ^ 1))) twice (cut-again sum-cut (mul-pos (pow-pos e) (pow-pos e)) (4 ^ 1) (lit< tt))
+      again : Cut (4 * exact) (2 ^ (e + j) * 2 ^ (e + j)) (total / 4 ^ j) (cut || ltb 0 (total % 4 ^ j))
+      again = subst (λ (d : ℕ). Cut (4 * exact) d (total / 4 ^ j) (cut || ltb 0 (total % 4 ^ j))) larger (cut-again sum-cut (mul-pos (pow-pos e) (pow-pos e)) (4 ^ j) (four-pos j))
         where
-          twice : 2 ^ e * 2 ^ e * 4 ^ 1 ≡ 2 ^ (e + 1) * 2 ^ (e + 1)
-          twice = rw (pow-add 2 e 1) (regroup (2 ^ e))
-            where
-              regroup : (E : ℕ) → E * E * 4 ^ 1 ≡ E * 2 ^ 1 * (E * 2 ^ 1)
-              regroup E = omega arith
+          larger : 2 ^ e * 2 ^ e * 4 ^ j ≡ 2 ^ (e + j) * 2 ^ (e + j)
+          larger = rw (pow-add 2 e j, four-square j) (mul-mul-mul-comm (2 ^ e) (2 ^ e) (2 ^ j) (2 ^ j))
 
-      quarter-lt : (N : ℕ) → N < 2 ^ 109 → N / 4 ^ 1 < 2 ^ 108
-      quarter-lt N h = omega arith
+  module _ (hi lo : ℕ) (words : hi * 2 ^ 54 + lo ≡ total) (L : lo < 2 ^ 54) where
+    abbrev j : ℕ
+    j = hi / 2 ^ 54
 
-      quarter-ge : (N : ℕ) → 2 ^ 108 ≤ N → 2 ^ 106 ≤ N / 4 ^ 1
-      quarter-ge N h = omega arith
+    pub longer-le : j ≤ 1
+    longer-le = omega (arith, words, sum-high)
+
+    pub longer-range : (total / 4 ^ j < 2 ^ 108) × (0 < e + j → 2 ^ 106 ≤ total / 4 ^ j)
+    longer-range = at j longer-le refl
+      where
+        at : (k : ℕ) → k ≤ 1 → j ≡ k → (total / 4 ^ k < 2 ^ 108) × (0 < e + k → 2 ^ 106 ≤ total / 4 ^ k)
+        at zero h q = (omega (arith, words, L, q), λ p. omega (arith, sum-low (omega (arith, p))))
+        at (suc zero) h q = (omega (arith, sum-high), λ _. omega (arith, words, q))
+        at (suc (suc k)) h q = absurd (omega (arith, h))

@@ -1,11 +1,14 @@
 -- Numbers of 108 binary digits in two words: what `square`, `quotient` and `sum` of the program do with them. Assumes nothing.
-use mathlib.Core.Path.{_≡_, sym, ap, ap₂, _∙_, subst}
-use mathlib.Core.Bool.{Bool}
+use borrow.Author.Tests.{lt-ltb, le-ltb, eq-eqb, ne-eqb}
+use mathlib.Core.Path.{_≡_, refl, sym, ap, ap₂, _∙_, subst}
+use mathlib.Core.Bool.{Bool, _&&_, _||_}
+use mathlib.Core.Logic.{inl, inr}
 use Prim.Native.Nat.{ℕ, _+_, _-_, _*_, _/_, _%_, _^_, _≤_, _<_}
-use native.Mathlib.Nat.{one-mul, add-mul, mul-assoc, mul-comm, add-comm, add-mul-mod-self-left, add-mul-div-right, div-lt-iff-lt-mul, lt-of-le-of-lt, mul-le-mul, mod-lt, div-add-mod'}
+use native.Mathlib.Nat.{le-refl, lt-irrefl, lt-of-not-le, eq-or-lt-of-le, one-mul, add-mul, mul-assoc, mul-comm, add-comm, add-mul-mod-self-left, add-mul-div-right, div-lt-iff-lt-mul, lt-of-le-of-lt, mul-le-mul, mod-lt, div-add-mod'}
+use native.Mathlib.Decide.{decLe}
 use native.Mathlib.Omega.{arith}
 use lib.Arith.{digits-lt}
-use lib.Dec.{lit<}
+use lib.Dec.{ltb, eqb, lit<}
 use lib.Pow.{pow-add, shl-exact}
 use Rattle.root.specs.PowersOfFour.{four-pow, four-pos}
 use Rattle.root.specs.declared.Wide.{Wide}
@@ -26,6 +29,22 @@ upper-lt hi lo N e h = omega arith
 
 pub upper-ge : (hi lo N : ℕ) → hi * 2 ^ 54 + lo ≡ N → lo < 2 ^ 54 → 2 ^ 106 ≤ N → 2 ^ 52 ≤ hi
 upper-ge hi lo N e l h = omega arith
+
+-- the words are compared, the upper ones first
+pub whole-lt : (m n : Wide) → m .lo < 2 ^ 54 → n .lo < 2 ^ 54 → (ltb (m .hi) (n .hi) || (eqb (m .hi) (n .hi) && ltb (m .lo) (n .lo))) ≡ ltb (whole m) (whole n)
+whole-lt m n M N = words (m .hi) (m .lo) (n .hi) (n .lo) M N
+  where
+    words : (a b c d : ℕ) → b < 2 ^ 54 → d < 2 ^ 54 → (ltb a c || (eqb a c && ltb b d)) ≡ ltb (a * 2 ^ 54 + b) (c * 2 ^ 54 + d)
+    words a b c d B D = elim (decLe c a) [
+      | no n ↦ rw (lt-ltb a c (lt-of-not-le n), lt-ltb (a * 2 ^ 54 + b) (c * 2 ^ 54 + d) (omega (arith, lt-of-not-le n))) refl
+      | yes h ↦ elim (eq-or-lt-of-le h) [
+        | inl e ↦ rw (e, le-ltb a a (le-refl a), eq-eqb a a refl) (elim (decLe d b) [
+          | yes k ↦ le-ltb b d k ∙ sym (le-ltb (a * 2 ^ 54 + b) (a * 2 ^ 54 + d) (omega (arith, k)))
+          | no k ↦ lt-ltb b d (lt-of-not-le k) ∙ sym (lt-ltb (a * 2 ^ 54 + b) (a * 2 ^ 54 + d) (omega (arith, lt-of-not-le k)))
+        ])
+        | inr l ↦ rw (le-ltb a c h, ne-eqb a c (λ e. lt-irrefl a (subst (λ (x : ℕ). x < a) (sym e) l)), le-ltb (a * 2 ^ 54 + b) (c * 2 ^ 54 + d) (omega (arith, l))) refl
+      ]
+    ]
 
 -- ---- the square of m = a * 2 ^ 27 + b
 

@@ -1,9 +1,12 @@
 // The square root of an f64 and the size of a complex number, each correctly rounded.
-// Both are half of the root of a whole number, which is found a binary digit at a time, highest first, in 64-bit words.
+// Both are half of the root of a whole number. A guess at it is made in f64 arithmetic and tested in whole numbers; where the
+// test refuses, the root is found a binary digit at a time, highest first, in 64-bit words.
 use complex::Complex;
+use complex::norm_sqr;
+use std::num::wrapping_sub_u64;
 ghost use mathlib.Core.Path.{_≡_};
-ghost use mathlib.Core.Bool.{false, _||_};
-ghost use Prim.Native.Nat.{_+_, _*_, _/_, _%_, _^_, _≤_, _<_};
+ghost use mathlib.Core.Bool.{false, cond, _&&_, _||_};
+ghost use Prim.Native.Nat.{_+_, _-_, _*_, _/_, _%_, _^_, _≤_, _<_};
 ghost use lib.Dec.{T, ltb};
 ghost use lib.Ieee.{binary64, fits, units, ofBits, toBits};
 ghost use Rattle.root.specs.Root.{rootOf};
@@ -79,8 +82,27 @@ fn from_units(h: u64, g: u64) -> f64
     }
 }
 
-// Half of the root of n, rounded to the nearest, times 2^g units.
-fn half_root(n: Wide, g: u64) -> f64
+// Whether m is less than n.
+fn is_less(m: Wide, n: Wide) -> bool
+    requires { ⌜ m .lo < 2 ^ 54 ⌝ }
+    requires { ⌜ n .lo < 2 ^ 54 ⌝ }
+    ensures { λ r. ⌜ r ≡ ltb (whole m) (whole n) ⌝ }
+{
+    (m.hi < n.hi) | ((m.hi == n.hi) & (m.lo < n.lo))
+}
+
+// Whether n lies between the squares of 2 * h - 1 and 2 * h + 1 and is neither. Then half of its root is rounded to h.
+fn is_half(n: Wide, h: u64) -> bool
+    requires { ⌜ n .lo < 2 ^ 54 ⌝ }
+    requires { ⌜ 0 < h ⌝ }
+    requires { ⌜ h < 2 ^ 53 ⌝ }
+    ensures { λ r. ⌜ r ≡ (ltb ((2 * h - 1) * (2 * h - 1)) (whole n) && ltb (whole n) ((2 * h + 1) * (2 * h + 1))) ⌝ }
+{
+    is_less(square(2 * h - 1), n) & is_less(n, square(2 * h + 1))
+}
+
+// Half of the root of n, rounded to the nearest, times 2^g units, by its digits.
+fn half_root_by_digits(n: Wide, g: u64) -> f64
     requires { ⌜ n .hi < 2 ^ 54 ⌝ }
     requires { ⌜ n .lo < 2 ^ 54 ⌝ }
     requires { ⌜ (0 < g → 2 ^ 52 ≤ n .hi) ⌝ }
@@ -90,6 +112,45 @@ fn half_root(n: Wide, g: u64) -> f64
     let first = digits(n.hi, 0, 0);
     let found = digits(n.lo, first.root, first.rest);
     from_units(nearest_half(found, n.cut), g)
+}
+
+// The same, where h + 1 or h - 1 is likely to be the half. They are tested, so h may be any number.
+fn half_root_beside(n: Wide, g: u64, h: u64) -> f64
+    requires { ⌜ n .hi < 2 ^ 54 ⌝ }
+    requires { ⌜ n .lo < 2 ^ 54 ⌝ }
+    requires { ⌜ (0 < g → 2 ^ 52 ≤ n .hi) ⌝ }
+    requires { ⌜ g ≤ 2046 ⌝ }
+    ensures { λ r. ⌜ r ≡ halfRoot (whole n) (n .cut) g ⌝ }
+{
+    if (1 < h) & (h < 0x1f_ffff_ffff_ffff) {
+        if is_half(n, h + 1) {
+            return from_units(h + 1, g);
+        }
+        if is_half(n, h - 1) {
+            return from_units(h - 1, g);
+        }
+    }
+    half_root_by_digits(n, g)
+}
+
+// The same, where the answer is likely to be `guess`, which may be anything: its half is tested.
+fn half_root(n: Wide, g: u64, guess: f64) -> f64
+    requires { ⌜ n .hi < 2 ^ 54 ⌝ }
+    requires { ⌜ n .lo < 2 ^ 54 ⌝ }
+    requires { ⌜ (0 < g → 2 ^ 52 ≤ n .hi) ⌝ }
+    requires { ⌜ g ≤ 2046 ⌝ }
+    ensures { λ r. ⌜ r ≡ halfRoot (whole n) (n .cut) g ⌝ }
+{
+    if guess != guess {
+        return half_root_by_digits(n, g);
+    }
+    let h = wrapping_sub_u64(f64::to_bits(guess), g * 0x10_0000_0000_0000);
+    if (0 < h) & (h < 0x20_0000_0000_0000) {
+        if is_half(n, h) {
+            return from_units(h, g);
+        }
+    }
+    half_root_beside(n, g, h)
 }
 
 // A finite value, its sign aside: significand * 2^exponent units of 2^-1074.
@@ -118,11 +179,127 @@ fn integer_decode(b: u64) -> Decoded
     }
 }
 
+// The bit pattern of x without its sign; that of a NaN is above the infinity's. And x is a value of its format.
+fn magnitude(x: f64) -> u64
+    ensures { λ b. ⌜ b ≡ toBits binary64 x % 2 ^ 63 ⌝ }
+    ensures { λ b. ⌜ T (fits binary64 x) ⌝ }
+{
+    if x != x {
+        return 0x7ff8_0000_0000_0000;
+    }
+    f64::to_bits(x) % 0x8000_0000_0000_0000
+}
+
+// The bit pattern of x; 0 for a NaN.
+fn pattern(x: f64) -> u64
+    ensures { λ b. ⌜ (0 < b → b ≡ toBits binary64 x) ⌝ }
+{
+    if x != x {
+        return 0;
+    }
+    f64::to_bits(x)
+}
+
+// ---- a guess at a root: nothing is proved of it, and no answer depends on it
+
+// The root of a number from 2 to 8, less 1, in 4096ths: at 2, 2 1/4, .. 4, and from there on half of it, at 4, 4 1/2, .. 8. So
+// it goes on from one exponent to the next, as bit patterns do.
+fn root_at(i: u64) -> u64
+    ensures { λ r. ⌜ r < 2 ^ 13 ⌝ }
+{
+    match i {
+        0 => 1697,
+        1 => 2048,
+        2 => 2380,
+        3 => 2696,
+        4 => 2998,
+        5 => 3288,
+        6 => 3567,
+        7 => 3836,
+        8 => 4096,
+        9 => 4344,
+        10 => 4579,
+        11 => 4803,
+        12 => 5017,
+        13 => 5221,
+        14 => 5418,
+        15 => 5609,
+        _ => 5793,
+    }
+}
+
+// 4096 times the number that is t / 4096 of the way from a to b.
+fn between(a: u64, b: u64, t: u64) -> u64
+    requires { ⌜ a < 2 ^ 13 ⌝ }
+    requires { ⌜ b < 2 ^ 13 ⌝ }
+    requires { ⌜ t < 4096 ⌝ }
+    ensures { λ r. ⌜ r ≤ 2 ^ 25 ⌝ }
+{
+    a * (4096 - t) + b * t
+}
+
+// A number near the root of the value with the bit pattern b: the pattern halved, and a line between two roots. It has 25
+// digits, so that its square is exact.
+fn first_guess(b: u64) -> f64
+    requires { ⌜ b < 2 ^ 63 ⌝ }
+{
+    let c = b + 0x10_0000_0000;
+    let i = (c >> 49) % 16;
+    let t = (c >> 37) % 4096;
+    let first = between(root_at(i), root_at(i + 1), t);
+    f64::from_bits((c >> 53 << 52) + (first << 28) + 0x1ff0_0000_0000_0000)
+}
+
+// The root of g * g + d, where r is 1 / (g * g + d): g times the series of 1 / root(1 - v) in v = d * r, to the fifth power.
+// Near a power of 4 the root is often just below the middle of two numbers, so a little is taken off.
+fn refined(g: f64, d: f64, r: f64) -> f64 {
+    let v = d * r;
+    let w = g * v;
+    let vv = v * v;
+    let first = w * (0.5 + 0.375 * v) - g * 1.0842021724855044e-19;
+    let rest = w * vv * (0.3125 + 0.2734375 * v + vv * 0.24609375);
+    g + (first + rest)
+}
+
+fn root_guess(x: f64) -> f64 {
+    if x != x {
+        return x;
+    }
+    let g = first_guess(f64::to_bits(x) % 0x8000_0000_0000_0000);
+    refined(g, x - g * g, 1.0 / x)
+}
+
+// The first half of x's digits.
+fn upper_half(x: f64) -> f64 {
+    let y = 134217729.0 * x;
+    y - (y - x)
+}
+
+// The sum of the squares of a's parts, less the square of g. The squares of their upper halves are exact.
+fn excess(a: Complex, g: f64) -> f64 {
+    let x = upper_half(a.re);
+    let y = upper_half(a.im);
+    let s = x * x;
+    let t = y * y;
+    let larger = if s < t { t } else { s };
+    let smaller = if s < t { s } else { t };
+    larger - g * g + smaller + ((a.re - x) * (a.re + x) + (a.im - y) * (a.im + y))
+}
+
+fn norm_guess(a: Complex) -> f64 {
+    let z = norm_sqr(a);
+    if z != z {
+        return z;
+    }
+    let g = first_guess(f64::to_bits(z) % 0x8000_0000_0000_0000);
+    refined(g, excess(a, g), 1.0 / z)
+}
+
 // ---- the square root
 
 // The root of a finite value above zero, by its bit pattern. Four times the value is c * 2^e squares of a unit, where c is
 // the significand moved up to 53 binary digits. Where e is odd it is moved up once more, so that the exponent can be halved.
-fn positive(b: u64) -> f64
+fn positive(b: u64, guess: f64) -> f64
     requires { ⌜ 0 < b ⌝ }
     requires { ⌜ b < 0x7ff0_0000_0000_0000 ⌝ }
     ensures { λ r. ⌜ r ≡ rootOf (ofBits binary64 b) ⌝ }
@@ -135,12 +312,12 @@ fn positive(b: u64) -> f64
         lo: 0,
         cut: false,
     };
-    half_root(n, e / 2 - 27)
+    half_root(n, e / 2 - 27, guess)
 }
 
-// The root of x. A zero is its own root, with its sign; of anything else below zero, and of a NaN, it
-// is a NaN. 1 is its own root too, and is told apart since most roots on product states are of 1.
-pub fn root(x: f64) -> f64
+// The root of x, whatever the guess at it. A zero is its own root, with its sign; of anything else below zero, and of a NaN,
+// it is a NaN.
+pub fn root_with(x: f64, guess: f64) -> f64
     ensures { λ r. ⌜ r ≡ rootOf x ⌝ }
 {
     if x != x {
@@ -159,10 +336,17 @@ pub fn root(x: f64) -> f64
     if b >= 0x7ff0_0000_0000_0000 {
         return x;
     }
-    if b == 0x3ff0_0000_0000_0000 {
+    positive(b, guess)
+}
+
+// The root of x. 1 is its own root, and is told apart since most roots on product states are of 1.
+pub fn root(x: f64) -> f64
+    ensures { λ r. ⌜ r ≡ rootOf x ⌝ }
+{
+    if pattern(x) == 0x3ff0_0000_0000_0000 {
         return x;
     }
-    positive(b)
+    root_with(x, root_guess(x))
 }
 
 // ---- the size of a complex number
@@ -224,9 +408,22 @@ fn scaled_sum(a: u64, b: u64, k: u64) -> Wide
     sum(square(2 * a), quotient(square(2 * b), k))
 }
 
+fn larger(x: u64, y: u64) -> u64
+    ensures { λ r. ⌜ r ≡ cond (ltb x y) y x ⌝ }
+{
+    if x < y { y } else { x }
+}
+
+fn smaller(x: u64, y: u64) -> u64
+    ensures { λ r. ⌜ r ≡ cond (ltb x y) x y ⌝ }
+{
+    if x < y { x } else { y }
+}
+
 // The size of two finite parts, by their bit patterns without signs, the larger first. Their squares are added in units of
-// the larger one's last digit squared. From 27 exponents apart on the smaller square does not count.
-fn finite_norm(x: u64, y: u64) -> f64
+// the larger one's last digit squared, or of the next where the sum has a digit more. From 27 exponents apart on the
+// smaller square does not count.
+fn finite_norm(x: u64, y: u64, guess: f64) -> f64
     requires { ⌜ y ≤ x ⌝ }
     requires { ⌜ x < 0x7ff0_0000_0000_0000 ⌝ }
     ensures { λ r. ⌜ r ≡ nearestRoot (sumOfSquares (ofBits binary64 x) (ofBits binary64 y)) ⌝ }
@@ -238,38 +435,30 @@ fn finite_norm(x: u64, y: u64) -> f64
         return f64::from_bits(x);
     }
     let n = scaled_sum(a.significand, b.significand, k);
-    if n.hi < 0x40_0000_0000_0000 {
-        half_root(n, a.exponent)
-    } else {
-        half_root(quotient(n, 1), a.exponent + 1)
-    }
+    let longer = n.hi >> 54;
+    half_root(quotient(n, longer), a.exponent + longer, guess)
 }
 
-// The bit pattern of x without its sign; that of a NaN is above the infinity's. And x is a value of its format.
-fn magnitude(x: f64) -> u64
-    ensures { λ b. ⌜ b ≡ toBits binary64 x % 2 ^ 63 ⌝ }
-    ensures { λ b. ⌜ T (fits binary64 x) ⌝ }
-{
-    if x != x {
-        return 0x7ff8_0000_0000_0000;
-    }
-    f64::to_bits(x) % 0x8000_0000_0000_0000
-}
-
-// The size of a complex number: the f64 nearest to the exact root of the sum of its parts' squares, ties to even.
-pub fn norm(a: Complex) -> f64
+// The size of a complex number, whatever the guess at it: the f64 nearest to the exact root of the sum of its parts'
+// squares, ties to even.
+pub fn norm_with(a: Complex, guess: f64) -> f64
     ensures { λ r. ⌜ r ≡ normOf a ⌝ }
 {
     let top: u64 = 0x7ff0_0000_0000_0000;
     let x = magnitude(a.re);
     let y = magnitude(a.im);
-    if x == top || y == top {
-        f64::from_bits(top)
-    } else if x > top || y > top {
-        0.0 / 0.0
-    } else if x < y {
-        finite_norm(y, x)
-    } else {
-        finite_norm(x, y)
+    if (x == top) | (y == top) {
+        return f64::from_bits(top);
     }
+    if (x > top) | (y > top) {
+        return 0.0 / 0.0;
+    }
+    finite_norm(larger(x, y), smaller(x, y), guess)
+}
+
+// The size of a complex number.
+pub fn norm(a: Complex) -> f64
+    ensures { λ r. ⌜ r ≡ normOf a ⌝ }
+{
+    norm_with(a, norm_guess(a))
 }

@@ -1,8 +1,8 @@
 -- `root::finite_norm` meets its contract (`specs/NormMethod.antt`). Assumes nothing.
 use borrow.Author.Needs.{needs}
-use mathlib.Core.Path.{ap₂, _∙_}
+use mathlib.Core.Path.{ap, ap₂, _∙_}
 use mathlib.Core.Bool.{Bool, _||_}
-use Prim.Native.Nat.{ℕ, _+_, _/_, _%_, _^_}
+use Prim.Native.Nat.{ℕ, _+_, _-_, _/_, _%_, _^_, _≤_, _<_}
 use native.Mathlib.Nat.{le-of-lt}
 use native.Mathlib.Omega.{arith}
 use lib.Dec.{ltb}
@@ -10,7 +10,7 @@ use Rattle.root.specs.Units.{pattern-real}
 use Rattle.root.specs.FromUnits.{decoded-exponent}
 use Rattle.root.specs.Wide.{upper-lt, upper-ge}
 use Rattle.root.specs.HalfRoot.{halfRoot}
-use Rattle.root.specs.NormMethod.{exponents-ordered, sum-low, sum-high, far, near, near-longer}
+use Rattle.root.specs.NormMethod.{scaledSum, exponents-ordered, far, near, longer-le, longer-range}
 use Rattle.root.proofs.finite_norm.Statement.{statement}
 use Rattle.root.proofs.finite_norm.Tie as tie
 
@@ -32,54 +32,51 @@ returns c = let d = c .before .before .before in let s = d .before .before in fa
 scaled-sum-requires : tie.Need-scaled-sum-requires
 scaled-sum-requires c κs = search needs
 
-half-root-requires : tie.Need-half-root-requires
-half-root-requires c κs =
-    let S = c .before .before .scaled-sum .ensures in
-    let d = c .before .before .before .before .before .before in
+-- the sum's two words, and the digit that it has more than 108
+longer-one : (c : tie.After-scaled-sum) → c .scaled-sum .result .hi / 2 ^ 54 ≤ 1
+longer-one c =
+    let d = c .before .before .before .before in
     let s = d .before .before in
-    let X = d .before .integer-decode .ensures in
-    let Y = d .integer-decode2 .ensures in
-    (c .if2 .taken, (S .low, (λ p. upper-ge _ _ _ (S .value) (S .low) (sum-low _ _ _ _ _ _ X Y (s .pre .0) (s .pre .1) p), le-of-lt (decoded-exponent _ _ _ X (s .pre .1)))))
+    longer-le _ _ _ _ _ _ (d .before .integer-decode .ensures) (d .integer-decode2 .ensures) (s .pre .0) (s .pre .1) _ _ (c .scaled-sum .ensures .value) (c .scaled-sum .ensures .low)
+
+in-range : (c : tie.After-scaled-sum) → let d = c .before .before .before .before in let a = d .before .integer-decode .result in let b = d .integer-decode2 .result in let N = scaledSum (a .significand) (b .significand) (a .exponent - b .exponent) in let j = c .scaled-sum .result .hi / 2 ^ 54 in (N / 4 ^ j < 2 ^ 108) × (0 < a .exponent + j → 2 ^ 106 ≤ N / 4 ^ j)
+in-range c =
+    let d = c .before .before .before .before in
+    let s = d .before .before in
+    longer-range _ _ _ _ _ _ (d .before .integer-decode .ensures) (d .integer-decode2 .ensures) (s .pre .0) (s .pre .1) _ _ (c .scaled-sum .ensures .value) (c .scaled-sum .ensures .low)
 
 quotient-requires : tie.Need-quotient-requires
-quotient-requires c κs = search needs
+quotient-requires c κs = (c .before .scaled-sum .ensures .low, omega (arith, longer-one (c .before)))
 
 add-half-root : tie.Need-add-half-root
 add-half-root c =
-    let d = c .before .before .before .before .before .before .before .before in
-    let s = d .before .before in
-    omega (arith, decoded-exponent _ _ _ (d .before .integer-decode .ensures) (s .pre .1))
+    let m = c .before .before .before in
+    let d = m .before .before .before .before in
+    omega (arith, longer-one m, decoded-exponent _ _ _ (d .before .integer-decode .ensures) (d .before .before .pre .1))
 
-half-root-requires-2 : tie.Need-half-root-requires-2
-half-root-requires-2 c κs =
+half-root-requires : tie.Need-half-root-requires
+half-root-requires c κs =
     let Q = c .before .quotient .ensures in
-    let S = c .before .before .before .before .scaled-sum .ensures in
-    let d = c .before .before .before .before .before .before .before .before in
-    let s = d .before .before in
-    let X = d .before .integer-decode .ensures in
-    let Y = d .integer-decode2 .ensures in
-    (upper-lt _ _ _ (Q .value) (omega (arith, S .value, sum-high _ _ _ _ _ _ X Y (s .pre .0) (s .pre .1))), (Q .low, (λ _. upper-ge _ _ _ (Q .value) (Q .low) (omega (arith, c .before .before .if2 .left)), omega (arith, decoded-exponent _ _ _ X (s .pre .1)))))
+    let m = c .before .before .before in
+    let d = m .before .before .before .before in
+    let r = in-range m in
+    let q = Q .value ∙ ap (λ (x : ℕ). x / 4 ^ (m .scaled-sum .result .hi / 2 ^ 54)) (m .scaled-sum .ensures .value) in
+    (upper-lt _ _ _ q (r .0), (Q .low, (λ p. upper-ge _ _ _ q (Q .low) (r .1 p), omega (arith, longer-one m, decoded-exponent _ _ _ (d .before .integer-decode .ensures) (d .before .before .pre .1)))))
 
 returns-2 : tie.Need-returns-2
 returns-2 c =
-    let S = c .before .before .before .scaled-sum .ensures in
-    let d = c .before .before .before .before .before .before .before in
-    let s = d .before .before in
-    c .half-root .ensures
-    ∙ ap₂ (λ (N : ℕ) (cut : Bool). halfRoot N cut (d .before .integer-decode .result .exponent)) (S .value) (S .flag)
-    ∙ near _ _ _ _ _ _ (d .before .integer-decode .ensures) (d .integer-decode2 .ensures) (s .pre .0) (s .pre .1) (omega (arith, S .value, S .low, c .before .if2 .taken))
-
-returns-3 : tie.Need-returns-3
-returns-3 c =
     let Q = c .before .before .quotient .ensures in
-    let S = c .before .before .before .before .before .scaled-sum .ensures in
-    let d = c .before .before .before .before .before .before .before .before .before in
+    let m = c .before .before .before .before in
+    let S = m .scaled-sum .ensures in
+    let d = m .before .before .before .before in
     let s = d .before .before in
-    let g = d .before .integer-decode .result .exponent + 1 in
-    c .half-root2 .ensures
+    let j = m .scaled-sum .result .hi / 2 ^ 54 in
+    let g = d .before .integer-decode .result .exponent + j in
+    let r = in-range m in
+    c .half-root .ensures
     ∙ ap₂ (λ (N : ℕ) (cut : Bool). halfRoot N cut g) (Q .value) (Q .flag)
-    ∙ ap₂ (λ (N : ℕ) (cut : Bool). halfRoot (N / 4 ^ 1) (cut || ltb 0 (N % 4 ^ 1)) g) (S .value) (S .flag)
-    ∙ near-longer _ _ _ _ _ _ (d .before .integer-decode .ensures) (d .integer-decode2 .ensures) (s .pre .0) (s .pre .1) (omega (arith, S .value, c .before .before .before .if2 .left))
+    ∙ ap₂ (λ (N : ℕ) (cut : Bool). halfRoot (N / 4 ^ j) (cut || ltb 0 (N % 4 ^ j)) g) (S .value) (S .flag)
+    ∙ near _ _ _ _ _ _ (d .before .integer-decode .ensures) (d .integer-decode2 .ensures) (s .pre .0) (s .pre .1) j (r .0) (r .1)
 
 pub finite-norm-spec : {M : Type 1} → statement M
 finite-norm-spec =
@@ -91,9 +88,7 @@ finite-norm-spec =
     float-from-bits-result
     returns
     scaled-sum-requires
-    half-root-requires
     quotient-requires
     add-half-root
-    half-root-requires-2
-    returns-2
-    returns-3)
+    half-root-requires
+    returns-2)

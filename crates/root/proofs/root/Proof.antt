@@ -1,56 +1,27 @@
--- `root::root` meets its contract: each range of patterns has its law in `specs/Patterns.antt`. Assumes nothing.
+-- `root::root` meets its contract. Assumes nothing.
 use borrow.Author.Needs.{needs}
-use mathlib.Core.Path.{_∙_, ap, sym, subst}
-use lib.Dec.{T}
+use mathlib.Core.Path.{sym, subst, _∙_}
+use Prim.Native.Nat.{ℕ, _<_}
+use lib.Dec.{T, lit<}
 use lib.Ieee.{binary64, fits}
-use lib.Ieee.Bits.{ofBits-toBits}
-use Rattle.root.specs.Root.{rootOf}
-use native.Mathlib.Omega.{arith}
-use Rattle.root.specs.Patterns.{not-nan, nan-root, no-root, zero-root, minus-zero-root, one-root, below-root, top-root}
+use Rattle.root.specs.Patterns.{one-root}
 use Rattle.root.proofs.root.Statement.{statement}
 use Rattle.root.proofs.root.Tie as tie
 
--- what owning an `f64` tells: the format holds it
-held : (c : tie.Start) → T (fits binary64 (c .args .x))
-held c = subst T (sym (c .good .0 .1)) tt
+pattern-requires : tie.Need-pattern-requires
+pattern-requires c κs = search needs
 
 returns : tie.Need-returns
-returns c = nan-root (c .before .args .x) (c .if1 .taken)
+returns c = let p = c .before in let s = p .before in one-root (s .args .x) (subst T (sym (s .good .0 .1)) tt) (sym (p .pattern .ensures (subst (λ (b : ℕ). 0 < b) (sym (c .if1 .taken)) (lit< tt))) ∙ c .if1 .taken)
 
-float-to-bits-b : tie.Need-float-to-bits-b
-float-to-bits-b c = not-nan (c .before .args .x) (c .if1 .left)
+root-guess-requires : tie.Need-root-guess-requires
+root-guess-requires c κs = search needs
+
+root-with-requires : tie.Need-root-with-requires
+root-with-requires c κs = search needs
 
 returns-2 : tie.Need-returns-2
-returns-2 c = let s = c .before .before in zero-root (s .args .x) (held s) (c .if2 .taken)
-
-returns-3 : tie.Need-returns-3
-returns-3 c = let s = c .before .before .before in minus-zero-root (s .args .x) (held s) (c .if3 .taken)
-
-returns-4 : tie.Need-returns-4
-returns-4 c = let s = c .before .before .before .before in no-root ∙ below-root (s .args .x) (held s) (c .if4 .taken)
-
-returns-5 : tie.Need-returns-5
-returns-5 c = let s = c .before .before .before .before .before in top-root (s .args .x) (held s) (c .if5 .taken) (omega (arith, c .before .if4 .left, c .before .before .if3 .left))
-
-returns-6 : tie.Need-returns-6
-returns-6 c = let s = c .before .before .before .before .before .before in one-root (s .args .x) (held s) (c .if6 .taken)
-
-positive-requires : tie.Need-positive-requires
-positive-requires c κs = search needs
-
-returns-7 : tie.Need-returns-7
-returns-7 c = let s = c .before .before .before .before .before .before .before in c .positive .ensures ∙ ap rootOf (ofBits-toBits binary64 (s .args .x) (held s))
+returns-2 c = c .root-with .ensures
 
 pub root-spec : {M : Type 1} → statement M
-root-spec =
-    tie.close
-    (tie.spec
-    returns
-    float-to-bits-b
-    returns-2
-    returns-3
-    returns-4
-    returns-5
-    returns-6
-    positive-requires
-    returns-7)
+root-spec = tie.close (tie.spec pattern-requires returns root-guess-requires root-with-requires returns-2)
