@@ -1,4 +1,3 @@
-use Rattle.model.specs.Sound.{bondsFit}
 use borrow.Author.Needs.{needs}
 use Rattle.sound.proofs.bonds_fit.Statement.{statement}
 use Rattle.sound.proofs.bonds_fit.Tie as tie
@@ -6,17 +5,11 @@ use Rattle.sound.proofs.bonds_fit.Tie as tie
 sub-last : tie.Need-sub-last
 sub-last c = search needs
 
-element-copy-out-wide : tie.Need-element-copy-out-wide
-element-copy-out-wide c = search needs
+element-copy-out-result : tie.Need-element-copy-out-result
+element-copy-out-result c = search needs
 
-wide-requires : tie.Need-wide-requires
-wide-requires c κs = search needs
-
-element-copy-out-wide-2 : tie.Need-element-copy-out-wide-2
-element-copy-out-wide-2 c = search needs
-
-wide-requires-2 : tie.Need-wide-requires-2
-wide-requires-2 c κs = search needs
+element-copy-out-result-2 : tie.Need-element-copy-out-result-2
+element-copy-out-result-2 c = search needs
 
 neighbours-agree-requires : tie.Need-neighbours-agree-requires
 neighbours-agree-requires c κs = search needs
@@ -28,18 +21,15 @@ bonds-within-requires-2 : tie.Need-bonds-within-requires-2
 bonds-within-requires-2 c κs = search needs
 
 returns : tie.Need-returns
-unfolding bondsFit
-returns c = rw (c .bonds-within2 .ensures, c .before .before .before .bonds-within .ensures, c .before .before .before .before .before .before .neighbours-agree .ensures, c .before .before .before .before .before .before .before .before .before .before .wide2 .ensures, c .before .before .before .before .before .before .before .before .before .before .before .before .wide .ensures)
+returns c = rw (c .bonds-within2 .ensures, c .before .bonds-within .ensures, c .before .before .neighbours-agree .ensures)
 
 pub bonds-fit-spec : {M : Type 1} → statement M
 bonds-fit-spec =
     tie.close
     (tie.spec
     sub-last
-    element-copy-out-wide
-    wide-requires
-    element-copy-out-wide-2
-    wide-requires-2
+    element-copy-out-result
+    element-copy-out-result-2
     neighbours-agree-requires
     bonds-within-requires
     bonds-within-requires-2

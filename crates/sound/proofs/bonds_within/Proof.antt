@@ -1,32 +1,25 @@
 use Prim.Native.Nat.{_≤_, _-_}
-use mathlib.Core.Path.{_≡_}
+use mathlib.Core.Path.{_≡_, sym}
 use native.Mathlib.Nat.{le-antisymm}
-use Rattle.complex.specs.Loops.{every, every-none, every-more}
-use Rattle.model.specs.Sound.{within, entryFits}
+use lib.ListN.{getD}
 use borrow.Author.Needs.{needs}
+use Rattle.complex.specs.Loops.{every, every-none, every-more}
+use Rattle.model.specs.Sound.{within}
+use Rattle.sound.specs.First.{every-parted}
 use Rattle.sound.proofs.bonds_within.Statement.{statement}
 use Rattle.sound.proofs.bonds_within.Tie as tie
 
 abbrev Inv-loop : tie.InvT-loop
-Inv-loop bonds n high ok₀ i₀ ok i = (i ≤ 64) × (ok ≡ every i (entryFits n bonds (within 1 high)))
+Inv-loop bonds n high ok₀ i₀ ok i = (i ≤ n) × (ok ≡ every i (λ k. within 1 high (getD bonds k 0)))
 
 abbrev μ-loop : tie.MeasureT-loop
-μ-loop bonds n high ok₀ i₀ ok i = 64 - i
+μ-loop bonds n high ok₀ i₀ ok i = n - i
 
 loop-holds : tie.Need-loop-holds Inv-loop μ-loop
 loop-holds c = (search needs, rw every-none)
 
-element-copy-out-wide : tie.Need-element-copy-out-wide Inv-loop μ-loop
-element-copy-out-wide c = search needs
-
-wide-requires : tie.Need-wide-requires Inv-loop μ-loop
-wide-requires c κs = search needs
-
-is-within-requires : tie.Need-is-within-requires Inv-loop μ-loop
-is-within-requires c κs = search needs
-
-entry-fits-requires : tie.Need-entry-fits-requires Inv-loop μ-loop
-entry-fits-requires c κs = search needs
+element-copy-out-x : tie.Need-element-copy-out-x Inv-loop μ-loop
+element-copy-out-x c = search needs
 
 add-i : tie.Need-add-i Inv-loop μ-loop
 add-i c = search needs
@@ -35,10 +28,15 @@ loop-less : tie.Need-loop-less Inv-loop μ-loop
 loop-less c = search needs
 
 loop-again : tie.Need-loop-again Inv-loop μ-loop
-loop-again c = (search needs, rw (every-more, c .entry-fits .ensures, c .before .is-within .ensures, c .before .before .wide .ensures, c .before .before .before .before .before .loop .inv .1))
+loop-again c = (search needs, rw (every-more, c .before .before .loop .inv .1))
+
+zeros-from-requires : tie.Need-zeros-from-requires Inv-loop μ-loop
+zeros-from-requires c κs = search needs
 
 returns : tie.Need-returns Inv-loop μ-loop
-returns c = let e = le-antisymm (c .before .loop .inv .0) (c .loop-test .left) in rw e at (c .before .loop .inv .1)
+returns c =
+    let e = le-antisymm (c .before .before .loop .inv .0) (c .before .loop-test .left) in
+    rw (c .before .before .loop .inv .1, c .zeros-from .ensures, e) (sym (every-parted _ 64 _ _ (c .before .before .before .pre)))
 
 pub bonds-within-spec : {M : Type 1} → statement M
 bonds-within-spec =
@@ -47,11 +45,9 @@ bonds-within-spec =
     Inv-loop
     μ-loop
     loop-holds
-    element-copy-out-wide
-    wide-requires
-    is-within-requires
-    entry-fits-requires
+    element-copy-out-x
     add-i
     loop-less
     loop-again
+    zeros-from-requires
     returns)
