@@ -1,4 +1,5 @@
-/* Compares jondwave_root with the machine's sqrt, bit by bit; all NaNs count as one. Usage: root_compare COUNT SEED. */
+/* Compares jondwave_root with the machine's sqrt, bit by bit; all NaNs count as one. Every tenth pattern is also given to
+ * jondwave_root_with, with guesses at the root that are wrong in every way. Usage: root_compare COUNT SEED. */
 #include <inttypes.h>
 #include <math.h>
 #include <stdint.h>
@@ -7,12 +8,13 @@
 #include <string.h>
 
 extern double jondwave_root(double x);
+extern double jondwave_root_with(double x, double guess);
 
 #define DIGITS ((UINT64_C(1) << 52) - 1)
 #define INFINITY_BITS (UINT64_C(0x7ff) << 52)
 #define SIGN (UINT64_C(1) << 63)
 
-static uint64_t limit, patterns, differences, state;
+static uint64_t limit, patterns, guesses, differences, state;
 
 /* splitmix64 */
 static uint64_t next(void) {
@@ -40,11 +42,21 @@ static void report(uint64_t bits, double got, double want) {
         printf("root %016" PRIx64 ": %016" PRIx64 ", expected %016" PRIx64 "\n", bits, pattern(got), pattern(want));
 }
 
+/* the root with units off, its negative, a neighbour with another exponent, zeros, infinities, a NaN, anything */
+static void guessed(uint64_t bits, double x, double want) {
+    uint64_t r = pattern(want);
+    uint64_t guess[] = {r, r + 1, r - 1, r + 2, r - 2, r ^ SIGN, r + DIGITS + 1, r - DIGITS - 1, 0, SIGN, 1, INFINITY_BITS, SIGN | INFINITY_BITS, INFINITY_BITS | 1, bits, next()};
+    for (size_t k = 0; k < sizeof guess / sizeof *guess; k++, guesses++) {
+        double got = jondwave_root_with(x, value(guess[k]));
+        if (pattern(got) != r) report(bits, got, want);
+    }
+}
+
 static void root_of(uint64_t bits) {
     if (patterns >= limit) return;
-    patterns++;
     double x = value(bits), got = jondwave_root(x), want = sqrt(x);
     if (pattern(got) != pattern(want)) report(bits, got, want);
+    if (patterns++ % 10 == 0) guessed(bits, x, want);
 }
 
 /* a pattern and those within d of it */
@@ -94,6 +106,6 @@ int main(int argc, char **argv) {
 
     while (patterns < limit) root_of(next());
 
-    printf("root: %" PRIu64 " patterns, %" PRIu64 " differences\n", patterns, differences);
+    printf("root: %" PRIu64 " patterns, %" PRIu64 " guesses handed in, %" PRIu64 " differences\n", patterns, guesses, differences);
     return differences != 0;
 }

@@ -1,10 +1,11 @@
 #!/usr/bin/env python3
 """Compares jondwave_norm with the size of a complex number found in whole numbers, bit by bit; all NaNs count as one.
 
-    python3 tests/size_compare.py LIBRARY [COUNT [SEED]]     LIBRARY: a shared library that has jondwave_norm
+    python3 tests/size_compare.py LIBRARY [COUNT [SEED]]     LIBRARY: a shared library that has jondwave_norm and jondwave_norm_with
 
 Pairs are bit patterns: of the special cases, at every distance of exponents from 0 to 60, subnormal, where the size passes
-the largest f64, at ties and one unit from them, close to a midpoint, and at random.
+the largest f64, at ties and one unit from them, close to a midpoint, and at random. Each pair is also given to
+jondwave_norm_with, with a guess at the size that is wrong.
 """
 import ctypes
 import math
@@ -128,10 +129,15 @@ class Pairs(random.Random):
         self.shuffle(parts)
         return tuple(parts)
 
+    def wrong(self, size):
+        """The pattern of a guess: the size some units off, with another exponent or sign, a special value, anything."""
+        off = self.choice([0, 1, -1, 1, -1, 2, -2, LEADING, -LEADING, SIGN])
+        return self.choice([(size + off) % (1 << 64), (size + off) % (1 << 64), 0, TOP, NAN, self.getrandbits(64)])
 
-def called(norm, re, im):
+
+def called(function, *parts):
     """The pattern of what the function gives."""
-    x = norm(*struct.unpack("<2d", struct.pack("<2Q", re, im)))
+    x = function(*struct.unpack(f"<{len(parts)}d", struct.pack(f"<{len(parts)}Q", *parts)))
     return NAN if x != x else struct.unpack("<Q", struct.pack("<d", x))[0]
 
 
@@ -139,18 +145,21 @@ def main():
     if not 2 <= len(sys.argv) <= 4:
         sys.exit(__doc__)
     library, count, seed = sys.argv[1:] + ["100000", "1"][len(sys.argv) - 2 :]
-    norm = ctypes.CDLL(library).jondwave_norm
-    norm.argtypes, norm.restype = [ctypes.c_double, ctypes.c_double], ctypes.c_double
+    norm, norm_with = (getattr(ctypes.CDLL(library), name) for name in ("jondwave_norm", "jondwave_norm_with"))
+    norm.argtypes, norm_with.argtypes = [ctypes.c_double] * 2, [ctypes.c_double] * 3
+    norm.restype = norm_with.restype = ctypes.c_double
     faults = [f"{re:016X} {im:016X}: the whole numbers do not give {want:016X}" for re, im, want in CASES if size(re, im)[0] != want]
     first, drawn, ties = [(re, im) for re, im, _ in CASES] + special(), Pairs(int(seed)), 0
     for k in range(int(count)):
         re, im = first[k] if k < len(first) else drawn.drawn(k)
-        (want, tie), got = size(re, im), called(norm, re, im)
+        want, tie = size(re, im)
+        guess = drawn.wrong(want)
         ties += tie
-        if got != want:
-            faults.append(f"{re:016X} {im:016X}: {got:016X}, and not {want:016X}")
+        for got in (called(norm, re, im), called(norm_with, re, im, guess)):
+            if got != want:
+                faults.append(f"{re:016X} {im:016X}, guess {guess:016X}: {got:016X}, and not {want:016X}")
     print(*faults[:10], sep="\n", end="\n" if faults else "")
-    print(f"size: {count} pairs, {ties} of them ties, {len(faults)} differences")
+    print(f"size: {count} pairs, {ties} of them ties, each with a guess handed in too, {len(faults)} differences")
     sys.exit(1 if faults else 0)
 
 

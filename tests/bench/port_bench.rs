@@ -9,6 +9,8 @@ use shipped::mps::access as shipped_rust;
 use std::time::Instant;
 
 unsafe extern "C" {
+    fn jondwave_root(x: f64) -> f64;
+    fn jondwave_norm(re: f64, im: f64) -> f64;
     fn jondwave_gates(n: usize, d: usize, eps: f64, clamp: f64, g: *const u8, gl: usize, s: *mut f64, sl: usize, w: *mut f64, wl: usize) -> f64;
 }
 
@@ -122,6 +124,28 @@ fn timed(best: &mut f64, run: impl FnOnce() -> f64) -> u64 {
     x.to_bits()
 }
 
+/// Nanoseconds a call on numbers of 20 exponents, the best of 300 rounds: where each call waits for the one before, and apart.
+fn nanoseconds(f: impl Fn(f64, f64) -> f64) -> (f64, f64) {
+    let mut r = Rng(11);
+    let mut drawn = || (1.0 + r.real().abs()) * 2f64.powi(r.below(20) as i32 - 10);
+    let xs: Vec<(f64, f64)> = (0..4096).map(|_| (drawn(), drawn())).collect();
+    let (mut waits, mut apart) = (f64::MAX, f64::MAX);
+    for _ in 0..300 {
+        timed(&mut waits, || xs.iter().fold(0.0, |last, &(x, y)| f(x + 1e-30 * last, y)));
+        timed(&mut apart, || xs.iter().fold(0.0, |sum, &(x, y)| sum + f(x, y)));
+    }
+    (waits * 1e9 / 4096.0, apart * 1e9 / 4096.0)
+}
+
+fn roots_and_sizes() {
+    println!("\n{:>22} {:>10} {:>10} {:>10} {:>10}", "ns a call", "port waits", "machine's", "port apart", "machine's");
+    let root = [nanoseconds(|x, _| unsafe { jondwave_root(x) }), nanoseconds(|x, _| x.sqrt())];
+    let size = [nanoseconds(|x, y| unsafe { jondwave_norm(x, y) }), nanoseconds(|x, y| x.hypot(y))];
+    for (name, [port, machine]) in [("root", root), ("size", size)] {
+        println!("{name:>22} {:>10.1} {:>10.1} {:>10.1} {:>10.1}", port.0, machine.0, port.1, machine.1);
+    }
+}
+
 fn main() {
     let mut args = std::env::args().skip(1);
     let rounds: usize = args.next().map_or(5, |x| x.parse().unwrap());
@@ -159,5 +183,8 @@ fn main() {
             "{:>22} {:>6} {:>10.2} {:>10.2} {:>7.2} {:>14.2} {:>7.2}",
             name, gates.len(), port * c, rust * c, port / rust, rooted * c, port / rooted
         );
+    }
+    if only.is_none() {
+        roots_and_sizes();
     }
 }

@@ -11,7 +11,7 @@ notices it; that a program traps or does not end is noticed too.
     states    the cases of compare.py, whole states against the oracle (program harness)
     cases     tests/chainrun.py (program chainrun)
     exports   functions called by themselves (program exports): roots against the machine's, sizes against whole
-              numbers, lists of gates against the oracle; an f64's bits, a record's lengths, what a run starts from,
+              numbers, both also with guesses handed in, lists of gates against the oracle; an f64's bits, a record's lengths, what a run starts from,
               the named gates and lines against what is promised
 """
 import collections, math, os, pathlib, re, signal, struct, subprocess, sys
@@ -95,13 +95,15 @@ class Exports:
         self.data, self.want = b"", []
         self.ask = lambda *words: struct.pack(f"<{len(words)}Q", *words)
         numbers = [0.0, -0.0, 1.0, 2.0, 4.0, -1.0, 5e-324, compare.INF, -compare.INF, float("nan"), *compare.near(9.0), *(t.any_number() for _ in range(2000))]
-        for x in numbers:
-            self.data += self.ask(1, compare.bits(x))
-            self.want.append(self.root(x))
         drawn = size_compare.Pairs(SEED)
+        for x in numbers:
+            root = self.root(x)
+            self.data += self.ask(1, compare.bits(x)) + self.ask(9, compare.bits(x), drawn.wrong(root))
+            self.want += [root, root]
         for x, y in [pair[:2] for pair in size_compare.CASES] + size_compare.special() + [drawn.drawn(k) for k in range(2000)]:
-            self.data += self.ask(2, x, y)
-            self.want.append(size_compare.size(x, y)[0])
+            size = size_compare.size(x, y)[0]
+            self.data += self.ask(2, x, y) + self.ask(10, x, y, drawn.wrong(size))
+            self.want += [size, size]
         for n, d, epsilon, clamp in [(2, 2, 0.0, 0.0), (5, 4, 1e-3, 0.0), (8, 4, 0.3, 1e-30), (20, 2, 0.0, 0.5), (32, 2, 1e-12, 1e-30)]:
             self.gates(t, oracle, n, d, epsilon, clamp)
         for w in [0, 1, compare.BIG, *(s | x for s in (0, 1 << 63) for e in (0x7FF0, 0x7FF8) for x in range((e << 48) - 1, (e << 48) + 2))]:

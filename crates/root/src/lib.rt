@@ -19,6 +19,73 @@ ghost use Rattle.root.specs.FromUnits.{Decodes};
 ghost use Rattle.root.specs.HalfRoot.{halfRoot};
 ghost use Rattle.root.specs.NormMethod.{scaledSum, cutOff};
 
+// ---- numbers of two words
+
+// A whole number, hi * 2^54 + lo with lo below 2^54, and whether anything was cut off below it.
+struct Wide {
+    hi: u64,
+    lo: u64,
+    cut: bool,
+}
+
+// Whether m is less than n.
+fn is_less(m: Wide, n: Wide) -> bool
+    requires { ⌜ m .lo < 2 ^ 54 ⌝ }
+    requires { ⌜ n .lo < 2 ^ 54 ⌝ }
+    ensures { λ r. ⌜ r ≡ ltb (whole m) (whole n) ⌝ }
+{
+    (m.hi < n.hi) | ((m.hi == n.hi) & (m.lo < n.lo))
+}
+
+// The square of m, by halves of 27 binary digits.
+fn square(m: u64) -> Wide
+    requires { ⌜ m < 2 ^ 54 ⌝ }
+    ensures { λ n. ⌜ Holds n (m * m) false ⌝ }
+{
+    let a = m >> 27;
+    let b = m % 0x800_0000;
+    let c = a * b;
+    let lo = b * b + c % 0x400_0000 * 0x1000_0000;
+    let hi = a * a + (c >> 26) + (lo >> 54);
+    Wide {
+        hi,
+        lo: lo % 0x40_0000_0000_0000,
+        cut: false,
+    }
+}
+
+// The whole part of n / 4^k.
+fn quotient(n: Wide, k: u64) -> Wide
+    requires { ⌜ n .lo < 2 ^ 54 ⌝ }
+    requires { ⌜ k ≤ 26 ⌝ }
+    ensures { λ m. ⌜ Holds m (whole n / 4 ^ k) (n .cut || ltb 0 (whole n % 4 ^ k)) ⌝ }
+{
+    let t: u64 = 1 << (2 * k);
+    let u: u64 = 1 << (54 - 2 * k);
+    let hi = n.hi / t;
+    let lo = n.hi % t * u + n.lo / t;
+    let cut = n.cut || n.lo % t > 0;
+    Wide { hi, lo, cut }
+}
+
+// m + n, where nothing was cut off below m.
+fn sum(m: Wide, n: Wide) -> Wide
+    requires { ⌜ m .hi < 2 ^ 54 ⌝ }
+    requires { ⌜ m .lo < 2 ^ 54 ⌝ }
+    requires { ⌜ n .hi < 2 ^ 54 ⌝ }
+    requires { ⌜ n .lo < 2 ^ 54 ⌝ }
+    ensures { λ s. ⌜ Holds s (whole m + whole n) (n .cut) ⌝ }
+{
+    let lo = m.lo + n.lo;
+    Wide {
+        hi: m.hi + n.hi + (lo >> 54),
+        lo: lo % 0x40_0000_0000_0000,
+        cut: n.cut,
+    }
+}
+
+// ---- half of a root
+
 // The digits found of a root, and what the number's digits so far are above their square.
 struct Found {
     root: u64,
@@ -60,13 +127,6 @@ fn nearest_half(found: Found, cut: bool) -> u64
     }
 }
 
-// A whole number, hi * 2^54 + lo with lo below 2^54, and whether anything was cut off below it.
-struct Wide {
-    hi: u64,
-    lo: u64,
-    cut: bool,
-}
-
 // h * 2^g units, where h may be 2^53. Past the largest f64 the pattern is the infinity's, and not one that follows it.
 fn from_units(h: u64, g: u64) -> f64
     requires { ⌜ h ≤ 2 ^ 53 ⌝ }
@@ -80,15 +140,6 @@ fn from_units(h: u64, g: u64) -> f64
     } else {
         f64::from_bits(b)
     }
-}
-
-// Whether m is less than n.
-fn is_less(m: Wide, n: Wide) -> bool
-    requires { ⌜ m .lo < 2 ^ 54 ⌝ }
-    requires { ⌜ n .lo < 2 ^ 54 ⌝ }
-    ensures { λ r. ⌜ r ≡ ltb (whole m) (whole n) ⌝ }
-{
-    (m.hi < n.hi) | ((m.hi == n.hi) & (m.lo < n.lo))
 }
 
 // Whether n lies between the squares of 2 * h - 1 and 2 * h + 1 and is neither. Then half of its root is rounded to h.
@@ -142,7 +193,7 @@ fn half_root(n: Wide, g: u64, guess: f64) -> f64
     ensures { λ r. ⌜ r ≡ halfRoot (whole n) (n .cut) g ⌝ }
 {
     if guess != guess {
-        return half_root_by_digits(n, g);
+        return half_root_beside(n, g, 0);
     }
     let h = wrapping_sub_u64(f64::to_bits(guess), g * 0x10_0000_0000_0000);
     if (0 < h) & (h < 0x20_0000_0000_0000) {
@@ -152,6 +203,8 @@ fn half_root(n: Wide, g: u64, guess: f64) -> f64
     }
     half_root_beside(n, g, h)
 }
+
+// ---- bit patterns
 
 // A finite value, its sign aside: significand * 2^exponent units of 2^-1074.
 struct Decoded {
@@ -351,63 +404,6 @@ pub fn root(x: f64) -> f64
 
 // ---- the size of a complex number
 
-// The square of m, by halves of 27 binary digits.
-fn square(m: u64) -> Wide
-    requires { ⌜ m < 2 ^ 54 ⌝ }
-    ensures { λ n. ⌜ Holds n (m * m) false ⌝ }
-{
-    let a = m >> 27;
-    let b = m % 0x800_0000;
-    let c = a * b;
-    let lo = b * b + c % 0x400_0000 * 0x1000_0000;
-    let hi = a * a + (c >> 26) + (lo >> 54);
-    Wide {
-        hi,
-        lo: lo % 0x40_0000_0000_0000,
-        cut: false,
-    }
-}
-
-// The whole part of n / 4^k.
-fn quotient(n: Wide, k: u64) -> Wide
-    requires { ⌜ n .lo < 2 ^ 54 ⌝ }
-    requires { ⌜ k ≤ 26 ⌝ }
-    ensures { λ m. ⌜ Holds m (whole n / 4 ^ k) (n .cut || ltb 0 (whole n % 4 ^ k)) ⌝ }
-{
-    let t: u64 = 1 << (2 * k);
-    let u: u64 = 1 << (54 - 2 * k);
-    let hi = n.hi / t;
-    let lo = n.hi % t * u + n.lo / t;
-    let cut = n.cut || n.lo % t > 0;
-    Wide { hi, lo, cut }
-}
-
-// m + n, where nothing was cut off below m.
-fn sum(m: Wide, n: Wide) -> Wide
-    requires { ⌜ m .hi < 2 ^ 54 ⌝ }
-    requires { ⌜ m .lo < 2 ^ 54 ⌝ }
-    requires { ⌜ n .hi < 2 ^ 54 ⌝ }
-    requires { ⌜ n .lo < 2 ^ 54 ⌝ }
-    ensures { λ s. ⌜ Holds s (whole m + whole n) (n .cut) ⌝ }
-{
-    let lo = m.lo + n.lo;
-    Wide {
-        hi: m.hi + n.hi + (lo >> 54),
-        lo: lo % 0x40_0000_0000_0000,
-        cut: n.cut,
-    }
-}
-
-// Four times the sum of the squares of a and b / 2^k, cut to a whole number.
-fn scaled_sum(a: u64, b: u64, k: u64) -> Wide
-    requires { ⌜ a < 2 ^ 53 ⌝ }
-    requires { ⌜ b < 2 ^ 53 ⌝ }
-    requires { ⌜ k ≤ 26 ⌝ }
-    ensures { λ n. ⌜ Holds n (scaledSum a b k) (cutOff b k) ⌝ }
-{
-    sum(square(2 * a), quotient(square(2 * b), k))
-}
-
 fn larger(x: u64, y: u64) -> u64
     ensures { λ r. ⌜ r ≡ cond (ltb x y) y x ⌝ }
 {
@@ -418,6 +414,16 @@ fn smaller(x: u64, y: u64) -> u64
     ensures { λ r. ⌜ r ≡ cond (ltb x y) x y ⌝ }
 {
     if x < y { x } else { y }
+}
+
+// Four times the sum of the squares of a and b / 2^k, cut to a whole number.
+fn scaled_sum(a: u64, b: u64, k: u64) -> Wide
+    requires { ⌜ a < 2 ^ 53 ⌝ }
+    requires { ⌜ b < 2 ^ 53 ⌝ }
+    requires { ⌜ k ≤ 26 ⌝ }
+    ensures { λ n. ⌜ Holds n (scaledSum a b k) (cutOff b k) ⌝ }
+{
+    sum(square(2 * a), quotient(square(2 * b), k))
 }
 
 // The size of two finite parts, by their bit patterns without signs, the larger first. Their squares are added in units of
@@ -448,12 +454,12 @@ pub fn norm_with(a: Complex, guess: f64) -> f64
     let x = magnitude(a.re);
     let y = magnitude(a.im);
     if (x == top) | (y == top) {
-        return f64::from_bits(top);
+        f64::from_bits(top)
+    } else if (x > top) | (y > top) {
+        0.0 / 0.0
+    } else {
+        finite_norm(larger(x, y), smaller(x, y), guess)
     }
-    if (x > top) | (y > top) {
-        return 0.0 / 0.0;
-    }
-    finite_norm(larger(x, y), smaller(x, y), guess)
 }
 
 // The size of a complex number.

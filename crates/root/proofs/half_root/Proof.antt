@@ -10,8 +10,8 @@ use Rattle.root.specs.HalfRoot.{tested-digits, tested}
 use Rattle.root.proofs.half_root.Statement.{statement}
 use Rattle.root.proofs.half_root.Tie as tie
 
-half-root-by-digits-requires : tie.Need-half-root-by-digits-requires
-half-root-by-digits-requires c κs = search needs
+half-root-beside-requires : tie.Need-half-root-beside-requires
+half-root-beside-requires c κs = search needs
 
 returns : tie.Need-returns
 returns c = search needs
@@ -42,8 +42,8 @@ returns-2 c =
     let s = c .before .before .before .before .before .before in
     c .from-units .ensures ∙ tested (s .args .n) (s .args .g) _ (s .pre .0) (s .pre .1 .0) (s .pre .1 .1 .0) (omega (arith, in-range (c .before .before .before) .0)) (sym (c .before .before .is-half .ensures) ∙ c .before .if3 .taken)
 
-half-root-beside-requires : tie.Need-half-root-beside-requires
-half-root-beside-requires c κs = search needs
+half-root-beside-requires-2 : tie.Need-half-root-beside-requires-2
+half-root-beside-requires-2 c κs = search needs
 
 returns-3 : tie.Need-returns-3
 returns-3 c = search needs
@@ -52,7 +52,7 @@ pub half-root-spec : {M : Type 1} → statement M
 half-root-spec =
     tie.close
     (tie.spec
-    half-root-by-digits-requires
+    half-root-beside-requires
     returns
     float-to-bits-wrapping-sub-u64
     mul-wrapping-sub-u64
@@ -60,5 +60,5 @@ half-root-spec =
     is-half-requires
     from-units-requires
     returns-2
-    half-root-beside-requires
+    half-root-beside-requires-2
     returns-3)

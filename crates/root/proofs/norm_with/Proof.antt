@@ -62,9 +62,9 @@ norm-with-spec =
     magnitude-requires
     magnitude-requires-2
     float-from-bits-result
-    returns
-    returns-2
     larger-requires
     smaller-requires
     finite-norm-requires
+    returns
+    returns-2
     returns-3)
