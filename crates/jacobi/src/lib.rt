@@ -17,6 +17,7 @@ ghost use mathlib.Core.Path.{_≡_};
 ghost use Prim.Native.Nat.{_+_, _*_, _<_, _≤_};
 ghost use Rattle.complex.specs.Numbers.{count};
 ghost use Rattle.model.specs.Jacobi as jacobi;
+ghost use Rattle.jacobi.specs.Factors.{applied, Acts, turnedP, turnedQ, Turns, turnedPair};
 
 const JACOBI_REL_TOL: f64 = 1e-15;
 
@@ -73,28 +74,80 @@ fn rotation(g: Gram) -> Rotation
     }
 }
 
-// What a number x of column p becomes, with y in its row of column q.
-fn rotated_p(t: Rotation, x: Complex, y: Complex) -> Complex
-    ensures { λ r. ⌜ r ≡ jacobi.rotatedP t x y ⌝ }
+// A complex factor, with its negated imaginary part beside it, so that both parts of a product are sums.
+struct Factor {
+    re: f64,
+    im: f64,
+    minus_im: f64,
+}
+
+// The factor a. Where its real part is the NaN every part is, as every product's parts are. By that test the compiler
+// takes the three parts as any numbers, and a product's two parts in one step.
+fn factor_of(a: Complex) -> Factor
+    ensures { λ r. ⌜ Acts r a ⌝ }
+{
+    if a.re != a.re {
+        return Factor {
+            re: a.re,
+            im: a.re,
+            minus_im: a.re,
+        };
+    }
+    Factor {
+        re: a.re,
+        im: a.im,
+        minus_im: -a.im,
+    }
+}
+
+fn times(a: Factor, z: Complex) -> Complex
+    ensures { λ r. ⌜ r ≡ applied a z ⌝ }
+{
+    Complex {
+        re: a.re * z.re + a.minus_im * z.im,
+        im: a.re * z.im + a.im * z.re,
+    }
+}
+
+// A rotation's factors: of x and of y in what x becomes, and in what y becomes.
+struct Turn {
+    px: Factor,
+    py: Factor,
+    qx: Factor,
+    qy: Factor,
+}
+
+fn turn_of(t: Rotation) -> Turn
+    ensures { λ r. ⌜ Turns r t ⌝ }
 {
     let c_cx = Complex { re: t.c, im: 0.0 };
     let s_cx = Complex { re: t.s, im: 0.0 };
-    add(mul(c_cx, x), mul(mul(s_cx, t.phase_conj), y))
+    Turn {
+        px: factor_of(c_cx),
+        py: factor_of(mul(s_cx, t.phase_conj)),
+        qx: factor_of(neg(s_cx)),
+        qy: factor_of(mul(c_cx, t.phase_conj)),
+    }
+}
+
+// What a number x of column p becomes, with y in its row of column q.
+fn rotated_p(t: Turn, x: Complex, y: Complex) -> Complex
+    ensures { λ r. ⌜ r ≡ turnedP t x y ⌝ }
+{
+    add(times(t.px, x), times(t.py, y))
 }
 
 // What a number y of column q becomes, with x in its row of column p.
-fn rotated_q(t: Rotation, x: Complex, y: Complex) -> Complex
-    ensures { λ r. ⌜ r ≡ jacobi.rotatedQ t x y ⌝ }
+fn rotated_q(t: Turn, x: Complex, y: Complex) -> Complex
+    ensures { λ r. ⌜ r ≡ turnedQ t x y ⌝ }
 {
-    let c_cx = Complex { re: t.c, im: 0.0 };
-    let s_cx = Complex { re: t.s, im: 0.0 };
-    add(mul(neg(s_cx), x), mul(mul(c_cx, t.phase_conj), y))
+    add(times(t.qx, x), times(t.qy, y))
 }
 
 // Numbers i and j, rotated.
-fn rotate_pair(w: &mut [f64], i: usize, j: usize, t: Rotation)
+fn rotate_pair(w: &mut [f64], i: usize, j: usize, t: Turn)
     requires { ⌜ (i < count (now w)) × (j < count (now w)) ⌝ }
-    ensures { λ _. ⌜ now (w .exit) ≡ jacobi.rotatedPair t i j (now (w .entry)) ⌝ }
+    ensures { λ _. ⌜ now (w .exit) ≡ turnedPair t i j (now (w .entry)) ⌝ }
 {
     let x = complex_at(w, i);
     let y = complex_at(w, j);
@@ -107,8 +160,9 @@ fn rotate(w: &mut [f64], base: usize, m: usize, p: usize, q: usize, t: Rotation)
     requires { ⌜ (p < q) × (base + (q * m + m) ≤ count (now w)) ⌝ }
     ensures { λ _. ⌜ now (w .exit) ≡ jacobi.rotated t base m p q (now (w .entry)) ⌝ }
 {
+    let turn = turn_of(t);
     for r in 0..m {
-        rotate_pair(w, base + (p * m + r), base + (q * m + r), t);
+        rotate_pair(w, base + (p * m + r), base + (q * m + r), turn);
     }
 }
 

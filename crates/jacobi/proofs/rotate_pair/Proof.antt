@@ -1,4 +1,3 @@
-use Rattle.model.specs.Jacobi.{rotatedPair}
 use borrow.Author.Needs.{needs}
 use Rattle.jacobi.proofs.rotate_pair.Statement.{statement}
 use Rattle.jacobi.proofs.rotate_pair.Tie as tie
@@ -25,7 +24,6 @@ same-length : tie.Need-same-length
 same-length c = search needs
 
 returns : tie.Need-returns
-unfolding rotatedPair
 returns c = rw (c .before .before .set-complex2 .ensures, c .before .before .before .rotated-q .ensures, c .before .before .before .before .before .before .before .set-complex .ensures, c .before .before .before .before .before .before .before .before .rotated-p .ensures, c .before .before .before .before .before .before .before .before .before .before .before .before .complex-at .ensures, c .before .before .before .before .before .before .before .before .before .before .complex-at2 .ensures)
 
 pub rotate-pair-spec : {M : Type 1} → statement M
