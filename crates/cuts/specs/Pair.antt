@@ -19,9 +19,12 @@ use Rattle.cuts.specs.declared.Slots.{Slots}
 use Rattle.moves.specs.Ready.{Ready, pair-right}
 use Rattle.moves.specs.Steps.{Pair, first-slot, second-slot, second-after}
 
+abbrev pub bondsOf : ℕ → ℕ → ℕ → Bonds
+bondsOf left mid right = record { left = left; mid = mid; right = right }
+
 -- the bonds of the sites k and k + 1
 abbrev pub pairBonds : Chain → ℕ → Bonds
-pairBonds c k = record { left = bondLeft c k; mid = bondRight c k; right = bondRight c (k + 1) }
+pairBonds c k = bondsOf (bondLeft c k) (bondRight c k) (bondRight c (k + 1))
 
 -- each of them is a byte
 pub record Bytes (b : Bonds) : Type 0 where

@@ -29,7 +29,7 @@ ghost use Rattle.truncation.specs.Shares.{sharesOf};
 ghost use Rattle.cutting.specs.Shape.{shapeOf, standing, Stands, Made};
 ghost use Rattle.moves.specs.Ready.{Ready};
 ghost use Rattle.moves.specs.Steps.{Pair};
-ghost use Rattle.cuts.specs.Pair.{pairBonds, Bytes, SlotsOf, recordedCut};
+ghost use Rattle.cuts.specs.Pair.{bondsOf, pairBonds, Bytes, SlotsOf, recordedCut};
 ghost use Rattle.cuts.specs.Attempts.{ranOf};
 
 // A byte as a machine word.
@@ -41,16 +41,15 @@ pub fn wide(x: u8) -> usize
 
 // ---- the bonds of a pair, and the tests before a cut
 
-// The bonds of the sites k and k + 1, as the record has them.
-fn pair_bonds(chain: Chain, k: usize) -> Bonds
-    requires { ⌜ k < 63 ⌝ }
-    ensures { λ r. ⌜ r ≡ pairBonds chain k ⌝ }
+// The bonds of a pair, by their bytes in the record: handing the record itself on would copy it.
+fn pair_bonds(left: u8, mid: u8, right: u8) -> Bonds
+    ensures { λ r. ⌜ r ≡ bondsOf left mid right ⌝ }
     ensures { λ r. ⌜ Bytes r ⌝ }
 {
     Bonds {
-        left: wide(chain.bond_left[k]),
-        mid: wide(chain.bond_right[k]),
-        right: wide(chain.bond_right[k + 1]),
+        left: wide(left),
+        mid: wide(mid),
+        right: wide(right),
     }
 }
 
@@ -283,7 +282,11 @@ fn cut_centered(
     let p = prepare_center(chain, store, work, k);
     let ready = p.chain;
     let side = p.side;
-    let bonds = pair_bonds(ready, k);
+    let bonds = pair_bonds(
+        ready.bond_left[k],
+        ready.bond_right[k],
+        ready.bond_right[k + 1],
+    );
     let weight = Weight {
         side,
         maintained: true,
@@ -303,7 +306,11 @@ fn cut_adjacent_pair(
     requires { ⌜ k + 1 < chain .«num_qubits» ⌝ }
     ensures { λ r. ⌜ tried (r .refused) (r .again) (held (r .chain) (now (store .exit))) ≡ attempt gate k (held chain (now (store .entry))) ⌝ }
 {
-    let bonds = pair_bonds(chain, k);
+    let bonds = pair_bonds(
+        chain.bond_left[k],
+        chain.bond_right[k],
+        chain.bond_right[k + 1],
+    );
     if workspace_exceeded(chain.workspace_exponent, bonds) {
         return Cut {
             refused: 6,

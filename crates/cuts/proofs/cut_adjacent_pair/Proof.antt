@@ -6,11 +6,23 @@ use borrow.Author.Needs.{needs}
 use Rattle.cuts.proofs.cut_adjacent_pair.Statement.{statement}
 use Rattle.cuts.proofs.cut_adjacent_pair.Tie as tie
 
+element-copy-out-pair-bonds : tie.Need-element-copy-out-pair-bonds
+element-copy-out-pair-bonds c = omega (arith, c .before .before .pre .1, c .before .before .pre .0 .sound .settings .qubits .1)
+
+element-copy-out-pair-bonds-2 : tie.Need-element-copy-out-pair-bonds-2
+element-copy-out-pair-bonds-2 c = omega (arith, c .before .before .before .pre .1, c .before .before .before .pre .0 .sound .settings .qubits .1)
+
+add-pair-bonds : tie.Need-add-pair-bonds
+add-pair-bonds c = omega (arith, c .before .before .before .before .pre .1, c .before .before .before .before .pre .0 .sound .settings .qubits .1)
+
+element-copy-out-pair-bonds-3 : tie.Need-element-copy-out-pair-bonds-3
+element-copy-out-pair-bonds-3 c = omega (arith, c .before .before .before .before .pre .1, c .before .before .before .before .pre .0 .sound .settings .qubits .1)
+
 pair-bonds-requires : tie.Need-pair-bonds-requires
-pair-bonds-requires c κs = omega (arith, c .before .before .pre .1, c .before .before .pre .0 .sound .settings .qubits .1)
+pair-bonds-requires c κs = search needs
 
 workspace-exceeded-requires : tie.Need-workspace-exceeded-requires
-workspace-exceeded-requires c κs = (c .before .before .before .pre .0 .sound .settings .exponent-range, c .pair-bonds .ensures .1)
+workspace-exceeded-requires c κs = (c .before .before .before .before .before .before .pre .0 .sound .settings .exponent-range, c .pair-bonds .ensures .1)
 
 returns : tie.Need-returns
 returns c = attempt-above _ _ _ _ (c .before .before .pair-bonds .ensures .0) (sym (c .before .workspace-exceeded .ensures) ∙ c .if1 .taken)
@@ -19,10 +31,10 @@ keeps-center-requires : tie.Need-keeps-center-requires
 keeps-center-requires c κs = c .before .before .pair-bonds .ensures .1
 
 cut-centered-requires : tie.Need-cut-centered-requires
-cut-centered-requires c κs = let a = c .before .before .before .before .before .before .before .before .before .args in (c .before .before .before .before .before .before .before .before .before .pre .0, (c .before .before .before .before .before .before .before .before .before .pre .1, keeps-centre (a .k) (held (a .chain) (a .store .now)) (c .before .before .before .before .before .before .pair-bonds .result) (c .before .before .before .before .before .before .pair-bonds .ensures .0) (sym (c .before .before .before .keeps-center .ensures) ∙ c .before .before .if2 .taken)))
+cut-centered-requires c κs = let a = c .before .before .before .before .before .before .before .before .before .before .before .before .args in (c .before .before .before .before .before .before .before .before .before .before .before .before .pre .0, (c .before .before .before .before .before .before .before .before .before .before .before .before .pre .1, keeps-centre (a .k) (held (a .t1) (a .store .now)) (c .before .before .before .before .before .before .pair-bonds .result) (c .before .before .before .before .before .before .pair-bonds .ensures .0) (sym (c .before .before .before .keeps-center .ensures) ∙ c .before .before .if2 .taken)))
 
 cut-pair-requires : tie.Need-cut-pair-requires
-cut-pair-requires c κs = (c .before .before .before .before .before .before .before .before .before .pre .0, (c .before .before .before .before .before .before .before .before .before .pre .1, c .before .before .before .before .before .before .pair-bonds .ensures .0))
+cut-pair-requires c κs = (c .before .before .before .before .before .before .before .before .before .before .before .before .pre .0, (c .before .before .before .before .before .before .before .before .before .before .before .before .pre .1, c .before .before .before .before .before .before .pair-bonds .ensures .0))
 
 same-length : tie.Need-same-length
 same-length c = search needs
@@ -46,6 +58,10 @@ pub cut-adjacent-pair-spec : {M : Type 1} → statement M
 cut-adjacent-pair-spec =
     tie.close
     (tie.spec
+    element-copy-out-pair-bonds
+    element-copy-out-pair-bonds-2
+    add-pair-bonds
+    element-copy-out-pair-bonds-3
     pair-bonds-requires
     workspace-exceeded-requires
     returns

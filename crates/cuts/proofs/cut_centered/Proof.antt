@@ -9,12 +9,24 @@ use Rattle.cuts.proofs.cut_centered.Tie as tie
 prepare-center-requires : tie.Need-prepare-center-requires
 prepare-center-requires c κs = search needs
 
+element-copy-out-pair-bonds : tie.Need-element-copy-out-pair-bonds
+element-copy-out-pair-bonds c = omega (arith, c .before .before .before .before .before .before .before .before .before .before .pre .1 .0, c .before .before .before .before .before .before .before .before .before .before .pre .0 .sound .settings .qubits .1)
+
+element-copy-out-pair-bonds-2 : tie.Need-element-copy-out-pair-bonds-2
+element-copy-out-pair-bonds-2 c = omega (arith, c .before .before .before .before .before .before .before .before .before .before .before .pre .1 .0, c .before .before .before .before .before .before .before .before .before .before .before .pre .0 .sound .settings .qubits .1)
+
+add-pair-bonds : tie.Need-add-pair-bonds
+add-pair-bonds c = omega (arith, c .before .before .before .before .before .before .before .before .before .before .before .before .pre .1 .0, c .before .before .before .before .before .before .before .before .before .before .before .before .pre .0 .sound .settings .qubits .1)
+
+element-copy-out-pair-bonds-3 : tie.Need-element-copy-out-pair-bonds-3
+element-copy-out-pair-bonds-3 c = omega (arith, c .before .before .before .before .before .before .before .before .before .before .before .before .pre .1 .0, c .before .before .before .before .before .before .before .before .before .before .before .before .pre .0 .sound .settings .qubits .1)
+
 pair-bonds-requires : tie.Need-pair-bonds-requires
-pair-bonds-requires c κs = omega (arith, c .before .before .before .before .before .before .before .before .before .before .pre .1 .0, c .before .before .before .before .before .before .before .before .before .before .pre .0 .sound .settings .qubits .1)
+pair-bonds-requires c κs = search needs
 
 cut-pair-requires : tie.Need-cut-pair-requires
-cut-pair-requires c κs = let h = c .before .before .before .before .before .before .before .before .before .before .before .before .before .pre in let x = prepared-keeps _ _ _ _ (h .0 .sound) _ (h .1 .0) _ (h .1 .1) (c .before .before .before .before .before .before .before .before .prepare-center .ensures) in
-    (ready-keeps _ _ _ _ _ _ (h .0) x (c .before .before .before .before .before .before .before .before .prepare-center .kept .1 .0) (c .before .before .before .before .before .before .before .before .prepare-center .kept .1 .1 .0), (omega (arith, x .qubits, h .1 .0), c .before .before .pair-bonds .ensures .0))
+cut-pair-requires c κs = let h = c .before .before .before .before .before .before .before .before .before .before .before .before .before .before .before .before .pre in let x = prepared-keeps _ _ _ _ (h .0 .sound) _ (h .1 .0) _ (h .1 .1) (c .before .before .before .before .before .before .before .before .before .before .before .prepare-center .ensures) in
+    (ready-keeps _ _ _ _ _ _ (h .0) x (c .before .before .before .before .before .before .before .before .before .before .before .prepare-center .kept .1 .0) (c .before .before .before .before .before .before .before .before .before .before .before .prepare-center .kept .1 .1 .0), (omega (arith, x .qubits, h .1 .0), c .before .before .pair-bonds .ensures .0))
 
 same-length : tie.Need-same-length
 same-length c = search needs
@@ -23,13 +35,17 @@ same-length-2 : tie.Need-same-length-2
 same-length-2 c = search needs
 
 returns : tie.Need-returns
-returns c = c .before .before .before .before .cut-pair .ensures ∙ ap (cutWith _ _ _) (c .before .before .before .before .before .before .before .before .before .before .before .before .before .prepare-center .ensures)
+returns c = c .before .before .before .before .cut-pair .ensures ∙ ap (cutWith _ _ _) (c .before .before .before .before .before .before .before .before .before .before .before .before .before .before .before .before .prepare-center .ensures)
 
 pub cut-centered-spec : {M : Type 1} → statement M
 cut-centered-spec =
     tie.close
     (tie.spec
     prepare-center-requires
+    element-copy-out-pair-bonds
+    element-copy-out-pair-bonds-2
+    add-pair-bonds
+    element-copy-out-pair-bonds-3
     pair-bonds-requires
     cut-pair-requires
     same-length
