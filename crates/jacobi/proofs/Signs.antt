@@ -1,9 +1,9 @@
--- The sign of a product: a negated factor negates it. And a value differs from itself only where it is the NaN. Assumes nothing.
-use mathlib.Core.Path.{_≡_, refl, sym, ap, _∙_}
-use mathlib.Core.Bool.{Bool, true, false, not, _&&_, _||_, Bool·beq, cond, true≢false}
+-- The sign of a product: a negated factor negates it. Assumes nothing.
+use mathlib.Core.Path.{_≡_, refl, ap, _∙_}
+use mathlib.Core.Bool.{Bool, true, false, not, cond}
 use Prim.Native.Nat.{ℕ, zero, suc, _+_, _-_, _*_, _/_, _%_, _^_, compare}
-use lib.Dec.{T, ltb, eqb, eqb-refl}
-use lib.Ieee.{Float, nan, inf, fin, Format, prec, emax, low, size, nearest, unlike, up, down, odd, units, round, neg, mul, ne, eq}
+use lib.Dec.{ltb, eqb}
+use lib.Ieee.{Float, nan, inf, fin, Format, prec, emax, low, size, nearest, unlike, up, down, odd, units, round, neg, mul}
 
 odd-not : (d : ℕ) (s : Bool) (q k l : ℕ) → odd d (not s) q k l ≡ neg (odd d s q k l)
 unfolding odd neg
@@ -52,17 +52,3 @@ mul-neg f (inf s) (fin t n d) = either (eqb n 0) _ _ _ _ nan-not (inf-unlike s t
 mul-neg f (fin s m e) nan = refl
 mul-neg f (fin s m e) (inf t) = either (eqb m 0) _ _ _ _ nan-not (inf-unlike s t)
 mul-neg f (fin s m e) (fin t n d) = ap (λ (b : Bool). round f b (m * up e * (n * up d)) (down e * down d)) (unlike-not s t) ∙ round-not f (unlike s t) (m * up e * (n * up d)) (down e * down d)
-
-is-true : (b : Bool) → T b → b ≡ true
-is-true true t = refl
-is-true false t = absurd t
-
-same : (s : Bool) (n : ℕ) → not (eqb n n && (Bool·beq s s || eqb n 0)) ≡ false
-same s n = rw (is-true (eqb n n) (eqb-refl n)) (elim s [ true ↦ refl | false ↦ refl ])
-
-pub ne-self-nan : (x : Float) → ne x x ≡ true → x ≡ nan
-unfolding ne eq
-ne-self-nan nan h = refl
-ne-self-nan (inf true) h = absurd (true≢false (sym h))
-ne-self-nan (inf false) h = absurd (true≢false (sym h))
-ne-self-nan (fin s m e) h = absurd (true≢false (sym h ∙ same s (m * up e * down e)))

@@ -1,11 +1,12 @@
 -- Where the real part is the NaN, so is every part of every product.
-use mathlib.Core.Path.{_≡_, refl}
-use mathlib.Core.Bool.{true, false}
-use lib.Ieee.{Float, nan, inf, fin, binary64, add, sub, mul, neg, ne, eq}
+use mathlib.Core.Path.{_≡_, refl, sym, subst}
+use lib.Dec.{T}
+use lib.Ieee.{Float, nan, binary64, add, sub, mul, neg}
+use lib.Ieee.Compare.{differs-from-itself}
 use Rattle.complex.specs.Complex.{mulC}
 use Rattle.complex.specs.declared.Complex.{Complex}
 use Rattle.jacobi.specs.Factors.{applied}
-use Rattle.jacobi.proofs.Signs.{mul-neg, ne-self-nan}
+use Rattle.jacobi.proofs.Signs.{mul-neg}
 use Rattle.jacobi.proofs.factor_of.Statement.{statement}
 use Rattle.jacobi.proofs.factor_of.Tie as tie
 
@@ -18,7 +19,7 @@ unfolding mulC sub
 without a z = rw (mul-neg binary64 (a .im) (z .im))
 
 returns : tie.Need-returns
-returns c = let a = c .before .before .args .a in rw (ne-self-nan (a .re) (c .if1 .taken)) (with-nan (a .im))
+returns c = let a = c .before .before .args .a in rw (differs-from-itself (a .re) (subst T (sym (c .if1 .taken)) tt)) (with-nan (a .im))
 
 returns-2 : tie.Need-returns-2
 returns-2 c = without (c .before .before .before .args .a)
