@@ -6,6 +6,7 @@ use num_complex::Complex64;
 use oracle::mps::access as oracle_rust;
 use rooted::mps::access as rooted_rust;
 use shipped::mps::access as shipped_rust;
+use std::hint::black_box;
 use std::time::Instant;
 
 unsafe extern "C" {
@@ -131,8 +132,8 @@ fn nanoseconds(f: impl Fn(f64, f64) -> f64) -> (f64, f64) {
     let xs: Vec<(f64, f64)> = (0..4096).map(|_| (drawn(), drawn())).collect();
     let (mut waits, mut apart) = (f64::MAX, f64::MAX);
     for _ in 0..300 {
-        timed(&mut waits, || xs.iter().fold(0.0, |last, &(x, y)| f(x + 1e-30 * last, y)));
-        timed(&mut apart, || xs.iter().fold(0.0, |sum, &(x, y)| sum + f(x, y)));
+        timed(&mut waits, || black_box(xs.iter().fold(0.0, |last, &(x, y)| f(x + 1e-30 * last, y))));
+        timed(&mut apart, || black_box(xs.iter().fold(0.0, |sum, &(x, y)| sum + f(x, y))));
     }
     (waits * 1e9 / 4096.0, apart * 1e9 / 4096.0)
 }

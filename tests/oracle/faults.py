@@ -11,8 +11,8 @@ notices it; that a program traps or does not end is noticed too.
     states    the cases of compare.py, whole states against the oracle (program harness)
     cases     tests/chainrun.py (program chainrun)
     exports   functions called by themselves (program exports): roots against the machine's, sizes against whole
-              numbers, both also with guesses handed in, lists of gates against the oracle; an f64's bits, a record's lengths, what a run starts from,
-              the named gates and lines against what is promised
+              numbers, both also with guesses handed in; lists of gates against the oracle; an f64's bits, a record's
+              lengths, what a run starts from, the named gates and lines against what is promised
 """
 import collections, math, os, pathlib, re, signal, struct, subprocess, sys
 import build_harness, compare

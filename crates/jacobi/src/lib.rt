@@ -81,8 +81,8 @@ struct Factor {
     minus_im: f64,
 }
 
-// The factor a. Where its real part is the NaN every part is, as every product's parts are. By that test the compiler
-// takes the three parts as any numbers, and a product's two parts in one step.
+// The factor a. Where its real part is the NaN, so is every part of every product, and each part may be it. But for this
+// case the compiler would see the negation and undo it.
 fn factor_of(a: Complex) -> Factor
     ensures { λ r. ⌜ Acts r a ⌝ }
 {
