@@ -13,7 +13,7 @@ port is linked as a static library that `rt staticlib` writes once it is proved.
 
 The weights that port, oracle and rooted discard are asserted to be equal to the bit; the shipped Rust's may differ.
 Prints microseconds a gate and the ratios, the best of ROUNDS (5); ONLY names the circuits to run. A run of all circuits
-also draws OUT/speed.svg, which docs/SPEED.md shows.
+also prints nanoseconds a root and a size, and draws OUT/speed.svg, which docs/SPEED.md shows.
 """
 import os, re, shutil, subprocess, sys
 
