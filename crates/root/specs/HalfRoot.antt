@@ -90,8 +90,15 @@ module _ (q g N : ℕ) (cut : Bool) (C : Cut (4 * q) (2 ^ g * 2 ^ g) N cut) (hig
   unfolding halfRoot
   cut-nearest = rw (C .left) (half-nearest q g w (N - w * w) (subst (λ (x : ℕ). RootRest x w (N - w * w)) (C .value) (rest-of-root N w is-root)) (λ p. le-of-suc-le-suc (side-lt (2 ^ 53) (suc w) (lt-of-le-of-lt (low p) (is-root .high)))) (side-lt w (2 ^ 54) (lt-of-le-of-lt (is-root .low) high)))
 
+-- a number in two words whose root has 54 digits, unless g is 0, so that its half times 2 ^ g units is a value or past the largest
+pub record Halvable (n : Wide) (g : ℕ) : Type 0 where
+  pub upper : n .hi < 2 ^ 54
+  pub lower : n .lo < 2 ^ 54
+  pub full : 0 < g → 2 ^ 52 ≤ n .hi
+  pub exponent : g ≤ 2046
+
 -- n is strictly between the squares of 2 * h - 1 and 2 * h + 1; then half of its root is rounded to h, whatever is cut off
-module _ (n : Wide) (g h : ℕ) (H : n .hi < 2 ^ 54) (L : n .lo < 2 ^ 54) (full : 0 < g → 2 ^ 52 ≤ n .hi) (some : 0 < h) (t : (ltb ((2 * h - 1) * (2 * h - 1)) (whole n) && ltb (whole n) ((2 * h + 1) * (2 * h + 1))) ≡ true) where
+module _ (n : Wide) (g h : ℕ) (A : Halvable n g) (some : 0 < h) (t : (ltb ((2 * h - 1) * (2 * h - 1)) (whole n) && ltb (whole n) ((2 * h + 1) * (2 * h + 1))) ≡ true) where
   both : (ltb ((2 * h - 1) * (2 * h - 1)) (whole n) ≡ true) × (ltb (whole n) ((2 * h + 1) * (2 * h + 1)) ≡ true)
   both = and-eq-true-iff (ltb ((2 * h - 1) * (2 * h - 1)) (whole n)) (ltb (whole n) ((2 * h + 1) * (2 * h + 1))) .0 t
 
@@ -105,7 +112,7 @@ module _ (n : Wide) (g h : ℕ) (H : n .hi < 2 ^ 54) (L : n .lo < 2 ^ 54) (full 
   v = wholeRoot 54 (whole n)
 
   root-v : IsRoot (whole n) v
-  root-v = whole-root 54 (whole n) (omega (arith, H, L))
+  root-v = whole-root 54 (whole n) (omega (arith, A .upper, A .lower))
 
   abbrev more : Bool
   more = n .cut || ltb 0 (whole n - v * v)
@@ -126,7 +133,7 @@ module _ (n : Wide) (g h : ℕ) (H : n .hi < 2 ^ 54) (L : n .lo < 2 ^ 54) (full 
       even v l k = omega (arith, some)
 
   pub tested-digits : Significand h g
-  tested-digits = subst (λ (x : ℕ). Significand x g) is-half (half-few v more (side-lt v (2 ^ 54) (lt-of-le-of-lt (root-v .low) (omega (arith, H, L)))), λ p. half-least v more (le-of-suc-le-suc (side-lt (2 ^ 53) (suc v) (lt-of-le-of-lt (omega (arith, full p)) (root-v .high)))))
+  tested-digits = subst (λ (x : ℕ). Significand x g) is-half (half-few v more (side-lt v (2 ^ 54) (lt-of-le-of-lt (root-v .low) (omega (arith, A .upper, A .lower)))), λ p. half-least v more (le-of-suc-le-suc (side-lt (2 ^ 53) (suc v) (lt-of-le-of-lt (omega (arith, A .full p)) (root-v .high)))))
 
   pub tested : units binary64 false h g ≡ halfRoot (whole n) (n .cut) g
   unfolding halfRoot

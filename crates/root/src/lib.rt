@@ -16,7 +16,7 @@ ghost use Rattle.root.specs.Whole.{RootRest};
 ghost use Rattle.root.specs.NearestHalf.{nearestHalf};
 ghost use Rattle.root.specs.Wide.{whole, Holds};
 ghost use Rattle.root.specs.FromUnits.{Decodes};
-ghost use Rattle.root.specs.HalfRoot.{halfRoot};
+ghost use Rattle.root.specs.HalfRoot.{halfRoot, Halvable};
 ghost use Rattle.root.specs.NormMethod.{scaledSum, cutOff};
 
 // ---- numbers of two words
@@ -154,10 +154,7 @@ fn is_half(n: Wide, h: u64) -> bool
 
 // Half of the root of n, rounded to the nearest, times 2^g units, by its digits.
 fn half_root_by_digits(n: Wide, g: u64) -> f64
-    requires { ⌜ n .hi < 2 ^ 54 ⌝ }
-    requires { ⌜ n .lo < 2 ^ 54 ⌝ }
-    requires { ⌜ (0 < g → 2 ^ 52 ≤ n .hi) ⌝ }
-    requires { ⌜ g ≤ 2046 ⌝ }
+    requires { ⌜ Halvable n g ⌝ }
     ensures { λ r. ⌜ r ≡ halfRoot (whole n) (n .cut) g ⌝ }
 {
     let first = digits(n.hi, 0, 0);
@@ -167,10 +164,7 @@ fn half_root_by_digits(n: Wide, g: u64) -> f64
 
 // The same, where h + 1 or h - 1 is likely to be the half. They are tested, so h may be any number.
 fn half_root_beside(n: Wide, g: u64, h: u64) -> f64
-    requires { ⌜ n .hi < 2 ^ 54 ⌝ }
-    requires { ⌜ n .lo < 2 ^ 54 ⌝ }
-    requires { ⌜ (0 < g → 2 ^ 52 ≤ n .hi) ⌝ }
-    requires { ⌜ g ≤ 2046 ⌝ }
+    requires { ⌜ Halvable n g ⌝ }
     ensures { λ r. ⌜ r ≡ halfRoot (whole n) (n .cut) g ⌝ }
 {
     if (1 < h) & (h < 0x1f_ffff_ffff_ffff) {
@@ -186,10 +180,7 @@ fn half_root_beside(n: Wide, g: u64, h: u64) -> f64
 
 // The same, where the answer is likely to be `guess`, which may be anything: its half is tested.
 fn half_root(n: Wide, g: u64, guess: f64) -> f64
-    requires { ⌜ n .hi < 2 ^ 54 ⌝ }
-    requires { ⌜ n .lo < 2 ^ 54 ⌝ }
-    requires { ⌜ (0 < g → 2 ^ 52 ≤ n .hi) ⌝ }
-    requires { ⌜ g ≤ 2046 ⌝ }
+    requires { ⌜ Halvable n g ⌝ }
     ensures { λ r. ⌜ r ≡ halfRoot (whole n) (n .cut) g ⌝ }
 {
     if guess != guess {

@@ -61,7 +61,7 @@ half-root-requires c κs =
     let d = m .before .before .before .before in
     let r = in-range m in
     let q = Q .value ∙ ap (λ (x : ℕ). x / 4 ^ (m .scaled-sum .result .hi / 2 ^ 54)) (m .scaled-sum .ensures .value) in
-    (upper-lt _ _ _ q (r .0), (Q .low, (λ p. upper-ge _ _ _ q (Q .low) (r .1 p), omega (arith, longer-one m, decoded-exponent _ _ _ (d .before .integer-decode .ensures) (d .before .before .pre .1)))))
+    record { upper = upper-lt _ _ _ q (r .0); lower = Q .low; full = λ p. upper-ge _ _ _ q (Q .low) (r .1 p); exponent = omega (arith, longer-one m, decoded-exponent _ _ _ (d .before .integer-decode .ensures) (d .before .before .pre .1)) }
 
 returns-2 : tie.Need-returns-2
 returns-2 c =

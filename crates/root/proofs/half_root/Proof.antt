@@ -29,18 +29,18 @@ in-range : (c : tie.Then2) → let h = c .before .wrapping-sub-u64 .result in (0
 in-range c = let t = and-eq-true-iff _ _ .0 (c .if2 .taken) in (ltb-true _ _ (t .0), ltb-true _ _ (t .1))
 
 is-half-requires : tie.Need-is-half-requires
-is-half-requires c κs = let r = in-range c in (c .before .before .before .pre .1 .0, (r .0, r .1))
+is-half-requires c κs = let r = in-range c in (c .before .before .before .pre .lower, (r .0, r .1))
 
 from-units-requires : tie.Need-from-units-requires
 from-units-requires c κs =
     let s = c .before .before .before .before .before in
-    let d = tested-digits (s .args .n) (s .args .g) _ (s .pre .0) (s .pre .1 .0) (s .pre .1 .1 .0) (omega (arith, in-range (c .before .before) .0)) (sym (c .before .is-half .ensures) ∙ c .if3 .taken) in
-    (d .0, (d .1, s .pre .1 .1 .1))
+    let d = tested-digits (s .args .n) (s .args .g) _ (s .pre) (omega (arith, in-range (c .before .before) .0)) (sym (c .before .is-half .ensures) ∙ c .if3 .taken) in
+    (d .0, (d .1, s .pre .exponent))
 
 returns-2 : tie.Need-returns-2
 returns-2 c =
     let s = c .before .before .before .before .before .before in
-    c .from-units .ensures ∙ tested (s .args .n) (s .args .g) _ (s .pre .0) (s .pre .1 .0) (s .pre .1 .1 .0) (omega (arith, in-range (c .before .before .before) .0)) (sym (c .before .before .is-half .ensures) ∙ c .before .if3 .taken)
+    c .from-units .ensures ∙ tested (s .args .n) (s .args .g) _ (s .pre) (omega (arith, in-range (c .before .before .before) .0)) (sym (c .before .before .is-half .ensures) ∙ c .before .if3 .taken)
 
 half-root-beside-requires-2 : tie.Need-half-root-beside-requires-2
 half-root-beside-requires-2 c κs = search needs

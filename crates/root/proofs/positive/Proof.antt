@@ -36,7 +36,7 @@ half-root-requires c κs =
     let d = c .before .before .before in
     let h = d .before .pre in
     let w = hi-range _ _ _ (d .integer-decode .ensures) (h .1) (h .0) in
-    (w .1, (lit< tt, (λ _. w .0, omega (arith, exponents _ _ _ (d .integer-decode .ensures) (h .1) (h .0) .2))))
+    record { upper = w .1; lower = lit< tt; full = λ _. w .0; exponent = omega (arith, exponents _ _ _ (d .integer-decode .ensures) (h .1) (h .0) .2) }
 
 returns : tie.Need-returns
 returns c = let d = c .before .before .before .before in let h = d .before .pre in c .half-root .ensures ∙ root-found _ _ _ (d .integer-decode .ensures) (h .1) (h .0)

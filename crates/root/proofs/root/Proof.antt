@@ -3,7 +3,6 @@ use borrow.Author.Needs.{needs}
 use mathlib.Core.Path.{sym, subst, _∙_}
 use Prim.Native.Nat.{ℕ, _<_}
 use lib.Dec.{T, lit<}
-use lib.Ieee.{binary64, fits}
 use Rattle.root.specs.Patterns.{one-root}
 use Rattle.root.proofs.root.Statement.{statement}
 use Rattle.root.proofs.root.Tie as tie
