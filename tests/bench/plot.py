@@ -41,6 +41,6 @@ def picture(rows):
         '<rect width="100%" height="100%" fill="white"/>\n'
         + panel(LEFT, "brickwork n 16: µs a gate", caps, times, [1, 10, 100, 1000, 10000, 100000])
         + "\n"
-        + panel(right, "port / Rust (dashed: equal roots)", caps, ratios, [0.5, 1, 2, 5])
+        + panel(right, "port / Rust (dashed: equal roots)", caps, ratios, [0.5, 1, 2])
         + f"\n{keys}\n</svg>\n"
     )
