@@ -4,7 +4,7 @@ use mathlib.Core.Path.{_≡_, ap, _∙_}
 use mathlib.Core.List.{List}
 use native.Mathlib.Nat.{mul-le-mul, mod-eq-of-lt, pow-le-pow-right}
 use native.Mathlib.Omega.{arith}
-use lib.ListN.{length}
+use lib.ListN.{length, getD}
 use lib.Ieee.{Float}
 use Rattle.complex.specs.Numbers.{count}
 use Rattle.complex.specs.Parts.{put}
@@ -19,12 +19,12 @@ use Rattle.cuts.specs.declared.Slots.{Slots}
 use Rattle.moves.specs.Ready.{Ready, pair-right}
 use Rattle.moves.specs.Steps.{Pair, first-slot, second-slot, second-after}
 
-abbrev pub bondsOf : ℕ → ℕ → ℕ → Bonds
-bondsOf left mid right = record { left = left; mid = mid; right = right }
+-- the bonds of the sites k and k + 1, in the lists of left and right bonds
+abbrev pub bondsAt : List ℕ → List ℕ → ℕ → Bonds
+bondsAt left right k = record { left = getD left k 0; mid = getD right k 0; right = getD right (k + 1) 0 }
 
--- the bonds of the sites k and k + 1
 abbrev pub pairBonds : Chain → ℕ → Bonds
-pairBonds c k = bondsOf (bondLeft c k) (bondRight c k) (bondRight c (k + 1))
+pairBonds c k = bondsAt (c .«bond_left») (c .«bond_right») k
 
 -- each of them is a byte
 pub record Bytes (b : Bonds) : Type 0 where

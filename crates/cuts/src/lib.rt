@@ -29,7 +29,7 @@ ghost use Rattle.truncation.specs.Shares.{sharesOf};
 ghost use Rattle.cutting.specs.Shape.{shapeOf, standing, Stands, Made};
 ghost use Rattle.moves.specs.Ready.{Ready};
 ghost use Rattle.moves.specs.Steps.{Pair};
-ghost use Rattle.cuts.specs.Pair.{bondsOf, pairBonds, Bytes, SlotsOf, recordedCut};
+ghost use Rattle.cuts.specs.Pair.{bondsAt, pairBonds, Bytes, SlotsOf, recordedCut};
 ghost use Rattle.cuts.specs.Attempts.{ranOf};
 
 // A byte as a machine word.
@@ -41,15 +41,16 @@ pub fn wide(x: u8) -> usize
 
 // ---- the bonds of a pair, and the tests before a cut
 
-// The bonds of a pair, by their bytes in the record: handing the record itself on would copy it.
-fn pair_bonds(left: u8, mid: u8, right: u8) -> Bonds
-    ensures { λ r. ⌜ r ≡ bondsOf left mid right ⌝ }
+// The bonds of the sites k and k + 1.
+fn pair_bonds<'a>(bond_left: &'a [u8; 64], bond_right: &'a [u8; 64], k: usize) -> Bonds
+    requires { ⌜ k < 63 ⌝ }
+    ensures { λ r. ⌜ r ≡ bondsAt (now («bond_left» .entry)) (now («bond_right» .entry)) k ⌝ }
     ensures { λ r. ⌜ Bytes r ⌝ }
 {
     Bonds {
-        left: wide(left),
-        mid: wide(mid),
-        right: wide(right),
+        left: wide(bond_left[k]),
+        mid: wide(bond_right[k]),
+        right: wide(bond_right[k + 1]),
     }
 }
 
@@ -282,11 +283,7 @@ fn cut_centered(
     let p = prepare_center(chain, store, work, k);
     let ready = p.chain;
     let side = p.side;
-    let bonds = pair_bonds(
-        ready.bond_left[k],
-        ready.bond_right[k],
-        ready.bond_right[k + 1],
-    );
+    let bonds = pair_bonds(&ready.bond_left, &ready.bond_right, k);
     let weight = Weight {
         side,
         maintained: true,
@@ -306,11 +303,7 @@ fn cut_adjacent_pair(
     requires { ⌜ k + 1 < chain .«num_qubits» ⌝ }
     ensures { λ r. ⌜ tried (r .refused) (r .again) (held (r .chain) (now (store .exit))) ≡ attempt gate k (held chain (now (store .entry))) ⌝ }
 {
-    let bonds = pair_bonds(
-        chain.bond_left[k],
-        chain.bond_right[k],
-        chain.bond_right[k + 1],
-    );
+    let bonds = pair_bonds(&chain.bond_left, &chain.bond_right, k);
     if workspace_exceeded(chain.workspace_exponent, bonds) {
         return Cut {
             refused: 6,

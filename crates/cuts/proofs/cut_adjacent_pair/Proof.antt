@@ -6,20 +6,8 @@ use borrow.Author.Needs.{needs}
 use Rattle.cuts.proofs.cut_adjacent_pair.Statement.{statement}
 use Rattle.cuts.proofs.cut_adjacent_pair.Tie as tie
 
-element-copy-out-pair-bonds : tie.Need-element-copy-out-pair-bonds
-element-copy-out-pair-bonds c = omega (arith, c .before .before .pre .1, c .before .before .pre .0 .sound .settings .qubits .1)
-
-element-copy-out-pair-bonds-2 : tie.Need-element-copy-out-pair-bonds-2
-element-copy-out-pair-bonds-2 c = omega (arith, c .before .before .before .pre .1, c .before .before .before .pre .0 .sound .settings .qubits .1)
-
-add-pair-bonds : tie.Need-add-pair-bonds
-add-pair-bonds c = omega (arith, c .before .before .before .before .pre .1, c .before .before .before .before .pre .0 .sound .settings .qubits .1)
-
-element-copy-out-pair-bonds-3 : tie.Need-element-copy-out-pair-bonds-3
-element-copy-out-pair-bonds-3 c = omega (arith, c .before .before .before .before .pre .1, c .before .before .before .before .pre .0 .sound .settings .qubits .1)
-
 pair-bonds-requires : tie.Need-pair-bonds-requires
-pair-bonds-requires c κs = search needs
+pair-bonds-requires c κs = omega (arith, c .before .before .before .before .before .pre .1, c .before .before .before .before .before .pre .0 .sound .settings .qubits .1)
 
 workspace-exceeded-requires : tie.Need-workspace-exceeded-requires
 workspace-exceeded-requires c κs = (c .before .before .before .before .before .before .pre .0 .sound .settings .exponent-range, c .pair-bonds .ensures .1)
@@ -58,10 +46,6 @@ pub cut-adjacent-pair-spec : {M : Type 1} → statement M
 cut-adjacent-pair-spec =
     tie.close
     (tie.spec
-    element-copy-out-pair-bonds
-    element-copy-out-pair-bonds-2
-    add-pair-bonds
-    element-copy-out-pair-bonds-3
     pair-bonds-requires
     workspace-exceeded-requires
     returns

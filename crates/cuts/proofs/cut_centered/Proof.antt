@@ -9,20 +9,8 @@ use Rattle.cuts.proofs.cut_centered.Tie as tie
 prepare-center-requires : tie.Need-prepare-center-requires
 prepare-center-requires c κs = search needs
 
-element-copy-out-pair-bonds : tie.Need-element-copy-out-pair-bonds
-element-copy-out-pair-bonds c = omega (arith, c .before .before .before .before .before .before .before .before .before .before .pre .1 .0, c .before .before .before .before .before .before .before .before .before .before .pre .0 .sound .settings .qubits .1)
-
-element-copy-out-pair-bonds-2 : tie.Need-element-copy-out-pair-bonds-2
-element-copy-out-pair-bonds-2 c = omega (arith, c .before .before .before .before .before .before .before .before .before .before .before .pre .1 .0, c .before .before .before .before .before .before .before .before .before .before .before .pre .0 .sound .settings .qubits .1)
-
-add-pair-bonds : tie.Need-add-pair-bonds
-add-pair-bonds c = omega (arith, c .before .before .before .before .before .before .before .before .before .before .before .before .pre .1 .0, c .before .before .before .before .before .before .before .before .before .before .before .before .pre .0 .sound .settings .qubits .1)
-
-element-copy-out-pair-bonds-3 : tie.Need-element-copy-out-pair-bonds-3
-element-copy-out-pair-bonds-3 c = omega (arith, c .before .before .before .before .before .before .before .before .before .before .before .before .pre .1 .0, c .before .before .before .before .before .before .before .before .before .before .before .before .pre .0 .sound .settings .qubits .1)
-
 pair-bonds-requires : tie.Need-pair-bonds-requires
-pair-bonds-requires c κs = search needs
+pair-bonds-requires c κs = omega (arith, c .before .before .before .before .before .before .before .before .before .before .before .before .before .pre .1 .0, c .before .before .before .before .before .before .before .before .before .before .before .before .before .pre .0 .sound .settings .qubits .1)
 
 cut-pair-requires : tie.Need-cut-pair-requires
 cut-pair-requires c κs = let h = c .before .before .before .before .before .before .before .before .before .before .before .before .before .before .before .before .pre in let x = prepared-keeps _ _ _ _ (h .0 .sound) _ (h .1 .0) _ (h .1 .1) (c .before .before .before .before .before .before .before .before .before .before .before .prepare-center .ensures) in
@@ -42,10 +30,6 @@ cut-centered-spec =
     tie.close
     (tie.spec
     prepare-center-requires
-    element-copy-out-pair-bonds
-    element-copy-out-pair-bonds-2
-    add-pair-bonds
-    element-copy-out-pair-bonds-3
     pair-bonds-requires
     cut-pair-requires
     same-length
