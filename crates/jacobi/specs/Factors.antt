@@ -21,14 +21,16 @@ applied a z = record {
 abbrev pub Acts : Factor → Complex → Type 0
 Acts a k = (z : Complex) → applied a z ≡ mulC k z
 
--- what x becomes, or y, by a factor of each
-abbrev pub turned : Factor → Factor → Complex → Complex → Complex
-turned a b x y = addC (applied a x) (applied b y)
+abbrev pub turnedP : Turn → Complex → Complex → Complex
+turnedP t x y = addC (applied (t .px) x) (applied (t .py) y)
+
+abbrev pub turnedQ : Turn → Complex → Complex → Complex
+turnedQ t x y = addC (applied (t .qx) x) (applied (t .qy) y)
 
 -- the factors are those of the rotation r
 pub record Turns (t : Turn) (r : Rotation) : Type 0 where
-  pub onP : (x y : Complex) → turned (t .px) (t .py) x y ≡ rotatedP r x y
-  pub onQ : (x y : Complex) → turned (t .qx) (t .qy) x y ≡ rotatedQ r x y
+  pub onP : (x y : Complex) → turnedP t x y ≡ rotatedP r x y
+  pub onQ : (x y : Complex) → turnedQ t x y ≡ rotatedQ r x y
 
 abbrev pub turnedPair : Turn → ℕ → ℕ → List Float → List Float
-turnedPair t i j w = store (store w i (turned (t .px) (t .py) (at w i) (at w j))) j (turned (t .qx) (t .qy) (at w i) (at w j))
+turnedPair t i j w = store (store w i (turnedP t (at w i) (at w j))) j (turnedQ t (at w i) (at w j))

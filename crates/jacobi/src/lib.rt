@@ -17,7 +17,7 @@ ghost use mathlib.Core.Path.{_≡_};
 ghost use Prim.Native.Nat.{_+_, _*_, _<_, _≤_};
 ghost use Rattle.complex.specs.Numbers.{count};
 ghost use Rattle.model.specs.Jacobi as jacobi;
-ghost use Rattle.jacobi.specs.Factors.{applied, Acts, turned, Turns, turnedPair};
+ghost use Rattle.jacobi.specs.Factors.{applied, Acts, turnedP, turnedQ, Turns, turnedPair};
 
 const JACOBI_REL_TOL: f64 = 1e-15;
 
@@ -130,11 +130,18 @@ fn turn_of(t: Rotation) -> Turn
     }
 }
 
-// What becomes of a number x of column p, or of y in its row of column q, by a factor of each.
-fn turned(a: Factor, b: Factor, x: Complex, y: Complex) -> Complex
-    ensures { λ r. ⌜ r ≡ turned a b x y ⌝ }
+// What a number x of column p becomes, with y in its row of column q.
+fn rotated_p(t: Turn, x: Complex, y: Complex) -> Complex
+    ensures { λ r. ⌜ r ≡ turnedP t x y ⌝ }
 {
-    add(times(a, x), times(b, y))
+    add(times(t.px, x), times(t.py, y))
+}
+
+// What a number y of column q becomes, with x in its row of column p.
+fn rotated_q(t: Turn, x: Complex, y: Complex) -> Complex
+    ensures { λ r. ⌜ r ≡ turnedQ t x y ⌝ }
+{
+    add(times(t.qx, x), times(t.qy, y))
 }
 
 // Numbers i and j, rotated.
@@ -144,8 +151,8 @@ fn rotate_pair(w: &mut [f64], i: usize, j: usize, t: Turn)
 {
     let x = complex_at(w, i);
     let y = complex_at(w, j);
-    set_complex(w, i, turned(t.px, t.py, x, y));
-    set_complex(w, j, turned(t.qx, t.qy, x, y));
+    set_complex(w, i, rotated_p(t, x, y));
+    set_complex(w, j, rotated_q(t, x, y));
 }
 
 // Columns p and q, rotated, of the matrix of m rows that stands from base on.

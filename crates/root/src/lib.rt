@@ -282,17 +282,16 @@ fn between(a: u64, b: u64, t: u64) -> u64
     a * (4096 - t) + b * t
 }
 
-// A number near the root of x: the bit pattern halved, and a line between two roots. It has 25 digits, so that its square
-// is exact.
-fn first_guess(x: f64) -> f64 {
-    if x != x {
-        return x;
-    }
-    let b = f64::to_bits(x) % 0x8000_0000_0000_0000 + 0x10_0000_0000;
-    let i = (b >> 49) % 16;
-    let t = (b >> 37) % 4096;
+// A number near the root of the value with the bit pattern b: the pattern halved, and a line between two roots. It has 25
+// digits, so that its square is exact.
+fn first_guess(b: u64) -> f64
+    requires { ⌜ b < 2 ^ 63 ⌝ }
+{
+    let c = b + 0x10_0000_0000;
+    let i = (c >> 49) % 16;
+    let t = (c >> 37) % 4096;
     let first = between(root_at(i), root_at(i + 1), t);
-    f64::from_bits((b >> 53 << 52) + (first << 28) + 0x1ff0_0000_0000_0000)
+    f64::from_bits((c >> 53 << 52) + (first << 28) + 0x1ff0_0000_0000_0000)
 }
 
 // The root of g * g + d, where r is 1 / (g * g + d): g times the series of 1 / root(1 - v) in v = d * r, to the fifth power.
@@ -307,7 +306,10 @@ fn refined(g: f64, d: f64, r: f64) -> f64 {
 }
 
 fn root_guess(x: f64) -> f64 {
-    let g = first_guess(x);
+    if x != x {
+        return x;
+    }
+    let g = first_guess(f64::to_bits(x) % 0x8000_0000_0000_0000);
     refined(g, x - g * g, 1.0 / x)
 }
 
@@ -330,7 +332,10 @@ fn excess(a: Complex, g: f64) -> f64 {
 
 fn norm_guess(a: Complex) -> f64 {
     let z = norm_sqr(a);
-    let g = first_guess(z);
+    if z != z {
+        return z;
+    }
+    let g = first_guess(f64::to_bits(z) % 0x8000_0000_0000_0000);
     refined(g, excess(a, g), 1.0 / z)
 }
 

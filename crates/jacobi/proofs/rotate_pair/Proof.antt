@@ -8,14 +8,14 @@ complex-at-requires c κs = search needs
 complex-at-requires-2 : tie.Need-complex-at-requires-2
 complex-at-requires-2 c κs = search needs
 
-turned-requires : tie.Need-turned-requires
-turned-requires c κs = search needs
+rotated-p-requires : tie.Need-rotated-p-requires
+rotated-p-requires c κs = search needs
 
 set-complex-requires : tie.Need-set-complex-requires
 set-complex-requires c κs = search needs
 
-turned-requires-2 : tie.Need-turned-requires-2
-turned-requires-2 c κs = search needs
+rotated-q-requires : tie.Need-rotated-q-requires
+rotated-q-requires c κs = search needs
 
 set-complex-requires-2 : tie.Need-set-complex-requires-2
 set-complex-requires-2 c κs = search needs
@@ -24,7 +24,7 @@ same-length : tie.Need-same-length
 same-length c = search needs
 
 returns : tie.Need-returns
-returns c = rw (c .before .before .set-complex2 .ensures, c .before .before .before .turned2 .ensures, c .before .before .before .before .before .before .before .set-complex .ensures, c .before .before .before .before .before .before .before .before .turned .ensures, c .before .before .before .before .before .before .before .before .before .before .before .before .complex-at .ensures, c .before .before .before .before .before .before .before .before .before .before .complex-at2 .ensures)
+returns c = rw (c .before .before .set-complex2 .ensures, c .before .before .before .rotated-q .ensures, c .before .before .before .before .before .before .before .set-complex .ensures, c .before .before .before .before .before .before .before .before .rotated-p .ensures, c .before .before .before .before .before .before .before .before .before .before .before .before .complex-at .ensures, c .before .before .before .before .before .before .before .before .before .before .complex-at2 .ensures)
 
 pub rotate-pair-spec : {M : Type 1} → statement M
 rotate-pair-spec =
@@ -32,9 +32,9 @@ rotate-pair-spec =
     (tie.spec
     complex-at-requires
     complex-at-requires-2
-    turned-requires
+    rotated-p-requires
     set-complex-requires
-    turned-requires-2
+    rotated-q-requires
     set-complex-requires-2
     same-length
     returns)

@@ -2,18 +2,11 @@
 use borrow.Author.Needs.{needs}
 use native.Mathlib.Omega.{arith}
 use Rattle.root.specs.Units.{pattern-real}
-use Rattle.root.specs.Patterns.{not-nan}
 use Rattle.root.proofs.first_guess.Statement.{statement}
 use Rattle.root.proofs.first_guess.Tie as tie
 
-returns : tie.Need-returns
-returns c = search needs
-
-float-to-bits-b : tie.Need-float-to-bits-b
-float-to-bits-b c = not-nan _ (c .if1 .left)
-
-add-b : tie.Need-add-b
-add-b c = search needs
+add-c : tie.Need-add-c
+add-c c = search needs
 
 root-at-requires : tie.Need-root-at-requires
 root-at-requires c κs = search needs
@@ -34,18 +27,16 @@ add-result-2 : tie.Need-add-result-2
 add-result-2 c = search needs
 
 float-from-bits-result : tie.Need-float-from-bits-result
-float-from-bits-result c = pattern-real _ (omega (arith, c .between .ensures))
+float-from-bits-result c = pattern-real _ (omega (arith, c .between .ensures, c .before .before .before .pre))
 
-returns-2 : tie.Need-returns-2
-returns-2 c = search needs
+returns : tie.Need-returns
+returns c = search needs
 
 pub first-guess-spec : {M : Type 1} → statement M
 first-guess-spec =
     tie.close
     (tie.spec
-    returns
-    float-to-bits-b
-    add-b
+    add-c
     root-at-requires
     add-root-at
     root-at-requires-2
@@ -53,4 +44,4 @@ first-guess-spec =
     add-result
     add-result-2
     float-from-bits-result
-    returns-2)
+    returns)

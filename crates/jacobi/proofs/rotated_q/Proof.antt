@@ -1,6 +1,6 @@
 use borrow.Author.Needs.{needs}
-use Rattle.jacobi.proofs.turned.Statement.{statement}
-use Rattle.jacobi.proofs.turned.Tie as tie
+use Rattle.jacobi.proofs.rotated_q.Statement.{statement}
+use Rattle.jacobi.proofs.rotated_q.Tie as tie
 
 times-requires : tie.Need-times-requires
 times-requires c κs = search needs
@@ -14,5 +14,5 @@ add-requires c κs = search needs
 returns : tie.Need-returns
 returns c = rw (c .add .ensures, c .before .before .times .ensures, c .before .times2 .ensures)
 
-pub turned-spec : {M : Type 1} → statement M
-turned-spec = tie.close (tie.spec times-requires times-requires-2 add-requires returns)
+pub rotated-q-spec : {M : Type 1} → statement M
+rotated-q-spec = tie.close (tie.spec times-requires times-requires-2 add-requires returns)
