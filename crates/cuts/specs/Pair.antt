@@ -1,9 +1,12 @@
 -- A pair of neighbours: its bonds, room to cut it, and the record after the cut.
-use Prim.Native.Nat.{ℕ, _+_, _*_, _%_, _^_, _≤_, _<_, max}
-use mathlib.Core.Path.{_≡_, ap, _∙_}
+use Prim.Native.Nat.{ℕ, _+_, _*_, _%_, _^_, _≤_, _<_, min, max}
+use mathlib.Core.Path.{_≡_, ap, sym, _∙_}
 use mathlib.Core.List.{List}
-use native.Mathlib.Nat.{mul-le-mul, mod-eq-of-lt, pow-le-pow-right}
+use native.Mathlib.Nat.{mul-le-mul, min-eq-right, mod-eq-of-lt, pow-le-pow-right}
+use native.Mathlib.Decide.{decLt}
 use native.Mathlib.Omega.{arith}
+use borrow.Author.Tests.{le-ltb}
+use lib.Dec.{ltb}
 use lib.ListN.{length, getD}
 use lib.Ieee.{Float}
 use Rattle.complex.specs.Numbers.{count}
@@ -11,7 +14,7 @@ use Rattle.complex.specs.Parts.{put}
 use Rattle.model.specs.declared.Chain.{Chain}
 use Rattle.model.specs.declared.Center.{Center}
 use Rattle.model.specs.Chain.{bondLeft, bondRight, withCenter, withBond, withTruncation}
-use Rattle.model.specs.Truncation.{recorded}
+use Rattle.model.specs.Truncation.{recorded, workspace}
 use Rattle.model.specs.Slots.{slotRoom, slotOf}
 use Rattle.cutting.specs.Shape.{shapeOf, room, room-fits}
 use Rattle.pair.specs.declared.Bonds.{Bonds}
@@ -43,11 +46,27 @@ pub record SlotsOf (d k : ℕ) (r : Slots) : Type 0 where
 abbrev pub recordedCut : Chain → ℕ → ℕ → List Float → Center → Chain
 recordedCut c k chi shares at = withCenter (withTruncation (withBond c k chi) (max (c .«bond_high_water») chi) (recorded (c .«truncation_discarded») shares)) at
 
--- a shift of 1, as the machine has it
-pub shifted : (e : ℕ) → e ≤ 63 → 1 * 2 ^ e % 18446744073709551616 ≡ 2 ^ e
-shifted e l =
-    let m : 2 ^ e ≤ 2 ^ 63 = pow-le-pow-right {n = 2} (omega arith) l in
-    mod-eq-of-lt (omega arith) ∙ omega arith
+-- the numbers that a cut of them works in, and the products that these are made of
+abbrev needed : Bonds → ℕ
+needed b = workspace (b .left) (b .mid) (b .right)
+
+pub products-most : (b : Bonds) → Bytes b → (b .left * b .right ≤ 65025) × (b .mid * b .right ≤ 65025)
+products-most b h = (mul-le-mul (h .left) (h .right), mul-le-mul (h .mid) (h .right))
+
+-- so many do not reach 2 ^ 63, at which 2 to the exponent can be cut off: the machine can shift no further
+pub shifted : (e : ℕ) (b : Bonds) → Bytes b → ltb (1 * 2 ^ min e 63 % 18446744073709551616) (needed b) ≡ ltb (2 ^ e) (needed b)
+shifted e b h =
+    let below : min e 63 ≤ 63 = omega arith in
+    let most : 2 ^ min e 63 ≤ 2 ^ 63 = pow-le-pow-right {n = 2} (omega arith) below in
+    ap (λ (x : ℕ). ltb x (needed b)) (mod-eq-of-lt (omega arith) ∙ omega arith) ∙ either (decLt e 63)
+  where
+    either : Dec (e < 63) → ltb (2 ^ min e 63) (needed b) ≡ ltb (2 ^ e) (needed b)
+    either (yes m) = ap (λ (x : ℕ). ltb (2 ^ x) (needed b)) (omega arith)
+    either (no m) =
+        let past : 63 ≤ e = omega arith in
+        let more : 2 ^ 63 ≤ 2 ^ e = pow-le-pow-right {n = 2} (omega arith) past in
+        let l : needed b ≤ 2 ^ 63 = omega (arith, products-most b h) in
+        rw (min-eq-right past) (le-ltb (2 ^ 63) (needed b) l ∙ sym (le-ltb (2 ^ e) (needed b) (omega arith)))
 
 -- a chain that is ready has room to cut each two neighbours
 pub pair-of : (c : Chain) (store work : List Float) → Ready c store work → (k : ℕ) → k + 1 < c .«num_qubits» → (b : Bonds) → b ≡ pairBonds c k → Pair (c .«max_bond_dim») k (b .left) (b .mid) (b .right) store work

@@ -54,12 +54,13 @@ fn pair_bonds<'a>(bond_left: &'a [u8; 64], bond_right: &'a [u8; 64], k: usize) -
     }
 }
 
-// Whether a cut of these bonds needs more numbers than the setting allows.
+// Whether a cut of these bonds needs more numbers than the setting allows. Bonds that are bytes need
+// fewer than 2^63, so that from 63 on every exponent allows the same.
 fn workspace_exceeded(workspace_exponent: u8, bonds: Bonds) -> bool
-    requires { ⌜ («workspace_exponent» ≤ 63) × Bytes bonds ⌝ }
+    requires { ⌜ Bytes bonds ⌝ }
     ensures { λ r. ⌜ r ≡ ltb (2 ^ «workspace_exponent») (workspace (bonds .left) (bonds .mid) (bonds .right)) ⌝ }
 {
-    let allowed: usize = 1 << wide(workspace_exponent);
+    let allowed: usize = 1 << smaller(wide(workspace_exponent), 63);
     allowed < 20 * bonds.left * bonds.right + 2 * bonds.mid * bonds.right
 }
 

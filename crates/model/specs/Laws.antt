@@ -32,6 +32,7 @@ pub mod StartLaws
 pub mod SvdLaws
 pub mod Tests
 pub mod Tracked
+pub mod Uncapped
 pub mod UnitCut
 pub mod UnitFloats
 pub mod UnitGates

@@ -19,9 +19,9 @@ within low high x = leb low x && leb x high
 abbrev pub share01 : Float → Bool
 share01 x = le zeroF x && lt x oneF
 
--- the settings that start takes
+-- the settings that start takes; the exponent is a byte, and every byte is taken
 unfoldable pub settingsFit : ℕ → ℕ → Float → Float → ℕ → Bool
-settingsFit n d epsilon clamp exponent = within 1 64 n && within 1 128 d && share01 epsilon && share01 clamp && leb exponent 63
+settingsFit n d epsilon clamp exponent = within 1 64 n && within 1 128 d && share01 epsilon && share01 clamp && leb exponent 255
 
 -- entry i of a list: within the chain it passes a test, past the chain it is 0
 abbrev pub entryFits : ℕ → List ℕ → (ℕ → Bool) → ℕ → Bool

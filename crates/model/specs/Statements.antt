@@ -11,5 +11,6 @@ pub mod ZeroSigns
 pub mod Factorings
 pub mod CutsAndMoves
 pub mod Roots
+pub mod Uncapped
 pub mod Marked
 pub mod Promised

@@ -25,15 +25,11 @@ pub fn is_share(x: f64) -> bool
     (0.0 <= x) & (x < 1.0)
 }
 
-// Whether start takes these settings.
+// Whether start takes these settings. Every byte is an exponent that it takes.
 pub fn settings_fit(n: usize, d: usize, epsilon: f64, clamp: f64, exponent: u8) -> bool
     ensures { λ r. ⌜ r ≡ settingsFit n d epsilon clamp exponent ⌝ }
 {
-    is_within(1, 64, n)
-        & is_within(1, 128, d)
-        & is_share(epsilon)
-        & is_share(clamp)
-        & (exponent <= 63)
+    is_within(1, 64, n) & is_within(1, 128, d) & is_share(epsilon) & is_share(clamp)
 }
 
 // Whether the entries from n on are 0.

@@ -10,7 +10,7 @@ pair-bonds-requires : tie.Need-pair-bonds-requires
 pair-bonds-requires c κs = omega (arith, c .before .before .before .before .before .pre .1, c .before .before .before .before .before .pre .0 .sound .settings .qubits .1)
 
 workspace-exceeded-requires : tie.Need-workspace-exceeded-requires
-workspace-exceeded-requires c κs = (c .before .before .before .before .before .before .pre .0 .sound .settings .exponent-range, c .pair-bonds .ensures .1)
+workspace-exceeded-requires c κs = c .pair-bonds .ensures .1
 
 returns : tie.Need-returns
 returns c = attempt-above _ _ _ _ (c .before .before .pair-bonds .ensures .0) (sym (c .before .workspace-exceeded .ensures) ∙ c .if1 .taken)

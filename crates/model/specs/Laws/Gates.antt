@@ -178,7 +178,7 @@ module _ (s : State) (work : List Float) (q0 q1 : ℕ) (g : List (List Complex))
   number = viewApplied (gateCall s work q0 q1 g .answer) .number
 
   -- accepted, or refused by 6 or 7, it ran
-  gate-ran : Late number → eqb (gateRefusal s work q0 q1 g) 0 ≡ true
+  pub gate-ran : Late number → eqb (gateRefusal s work q0 q1 g) 0 ≡ true
   unfolding gateCall
   gate-ran l =
       run-late (λ (a : After Applied). viewApplied (a .answer) .number) (gateRefusal s work q0 q1 g) (gateAfter (gateRun g q0 q1 s) (cleared (s .chain) work)) (after (applied.Refused (gateRefusal s work q0 q1 g)) s work)
@@ -188,7 +188,7 @@ module _ (s : State) (work : List Float) (q0 q1 : ℕ) (g : List (List Complex))
   unfolding gateCall gateRun
   gate-is-run e = ap (λ (b : Bool). cond b (gateAfter (gateRun g q0 q1 s) (cleared (s .chain) work)) (after (applied.Refused (gateRefusal s work q0 q1 g)) s work)) e
 
-  run-number : eqb (gateRefusal s work q0 q1 g) 0 ≡ true → runSteps (gateSteps s q0 q1 g) s .refused ≡ number
+  pub run-number : eqb (gateRefusal s work q0 q1 g) 0 ≡ true → runSteps (gateSteps s q0 q1 g) s .refused ≡ number
   run-number e = sym (ap (λ (a : After Applied). viewApplied (a .answer) .number) (gate-is-run e) ∙ applied-number (runSteps (gateSteps s q0 q1 g) s .refused))
 
   pub gate-ends : GateEnds s q0 q1 g (gateCall s work q0 q1 g)

@@ -16,6 +16,7 @@ use Rattle.model.specs.Laws.RootsOfSquares as roots
 use Rattle.model.specs.Laws.Demand3Proof as machine
 use Rattle.model.specs.Laws.Demand3Product as products
 use Rattle.model.specs.Laws.ZeroSigns as signs
+use Rattle.model.specs.Laws.Uncapped as uncapped
 
 pub promised : Promised
 promised = record {
@@ -52,5 +53,6 @@ promised = record {
   product-clause = products.product-clause;
   run-clause = products.run-clause;
   zero-signs = signs.zero-signs;
+  never-six = uncapped.never-six;
   marked = examples.marked;
 }

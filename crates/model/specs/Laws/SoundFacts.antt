@@ -61,20 +61,20 @@ module _ (n d : ℕ) (epsilon clamp : Float) (exponent : ℕ) where
   pub settings-facts : T (settingsFit n d epsilon clamp exponent) → Settings n d epsilon clamp exponent
   unfolding settingsFit
   settings-facts h =
-      let t = five (within 1 64 n) (within 1 128 d) (share01 epsilon) (share01 clamp) (leb exponent 63) h in
+      let t = five (within 1 64 n) (within 1 128 d) (share01 epsilon) (share01 clamp) (leb exponent 255) h in
       record {
         qubits = within-range 1 64 n (t .0);
         cap = within-range 1 128 d (t .1);
         epsilon-range = share-range epsilon (t .2);
         clamp-range = share-range clamp (t .3);
-        exponent-range = leb→le exponent 63 (t .4);
+        exponent-range = leb→le exponent 255 (t .4);
       }
 
   pub facts-settings : Settings n d epsilon clamp exponent → T (settingsFit n d epsilon clamp exponent)
   unfolding settingsFit
   facts-settings h =
-      of-five (within 1 64 n) (within 1 128 d) (share01 epsilon) (share01 clamp) (leb exponent 63)
-      (range-within 1 64 n (h .qubits)) (range-within 1 128 d (h .cap)) (range-share epsilon (h .epsilon-range)) (range-share clamp (h .clamp-range)) (le→leb exponent 63 (h .exponent-range))
+      of-five (within 1 64 n) (within 1 128 d) (share01 epsilon) (share01 clamp) (leb exponent 255)
+      (range-within 1 64 n (h .qubits)) (range-within 1 128 d (h .cap)) (range-share epsilon (h .epsilon-range)) (range-share clamp (h .clamp-range)) (le→leb exponent 255 (h .exponent-range))
 
 -- ---- bonds and maps
 

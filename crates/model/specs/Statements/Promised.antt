@@ -25,6 +25,7 @@ use Rattle.model.specs.Statements.Roots.{RootsOfSquares}
 use Rattle.model.specs.Statements.Demand3.{Demand3}
 use Rattle.model.specs.Statements.Product.{ProductClause, RunClause}
 use Rattle.model.specs.Statements.ZeroSigns.{ZeroSigns}
+use Rattle.model.specs.Statements.Uncapped.{NeverSix}
 use Rattle.model.specs.Statements.Marked.{allHold, table}
 
 pub record Promised : Type 0 where
@@ -69,5 +70,7 @@ pub record Promised : Type 0 where
   pub product-clause : ProductClause
   pub run-clause : RunClause
   pub zero-signs : ZeroSigns
+  -- W9: a workspace exponent of 64 or more
+  pub never-six : NeverSix
   -- document 01's marked examples
   pub marked : allHold table ≡ true

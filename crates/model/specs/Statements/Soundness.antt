@@ -15,7 +15,8 @@ pub record Settings (n d : ℕ) (epsilon clamp : Float) (exponent : ℕ) : Type 
   pub cap : (1 ≤ d) × (d ≤ 128)
   pub epsilon-range : T (le zeroF epsilon) × T (lt epsilon oneF)
   pub clamp-range : T (le zeroF clamp) × T (lt clamp oneF)
-  pub exponent-range : exponent ≤ 63
+  -- every byte
+  pub exponent-range : exponent ≤ 255
 
 -- the outer bonds are 1, neighbours agree, each bond of the n sites is from 1 to the high water, and the entries from n on are 0
 pub record Bonds (n high : ℕ) (left right : List ℕ) : Type 0 where

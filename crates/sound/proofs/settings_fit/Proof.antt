@@ -1,3 +1,6 @@
+use Prim.Native.Nat.{_≤_}
+use mathlib.Core.Bool.{and-true}
+use borrow.Author.Tests.{le-leb}
 use Rattle.model.specs.Sound.{settingsFit}
 use borrow.Author.Needs.{needs}
 use Rattle.sound.proofs.settings_fit.Statement.{statement}
@@ -17,7 +20,10 @@ is-share-requires-2 c κs = search needs
 
 returns : tie.Need-returns
 unfolding settingsFit
-returns c = rw (c .is-share2 .ensures, c .before .is-share .ensures, c .before .before .is-within2 .ensures, c .before .before .before .is-within .ensures)
+returns c =
+    let exponent = c .before .before .before .before .args .exponent in
+    let byte : exponent ≤ 255 = search needs in
+    rw (c .is-share2 .ensures, c .before .is-share .ensures, c .before .before .is-within2 .ensures, c .before .before .before .is-within .ensures, le-leb exponent 255 byte, and-true)
 
 pub settings-fit-spec : {M : Type 1} → statement M
 settings-fit-spec =
