@@ -1,7 +1,8 @@
 #!/usr/bin/env python3
 """Runs target/bin/chainrun, or the program that is named, on the streams of the stored list, whole and in pieces, and on
-the cases that document 01 names; the lines it has to print are the oracle's (crates/replay/stdout). Then on the sample
-stream, against what README shows. Prints nothing unless something differs."""
+the cases that document 01 names; the lines it has to print are the oracle's (crates/replay/stdout). Streams that start at
+exponent 63 are run at others above it too. Then on the sample stream, against what README shows. Prints nothing
+unless something differs."""
 import pathlib
 import re
 import select
@@ -105,6 +106,17 @@ def stored_cases():
         yield f"stream {k}", stream, stored.answers(section)
 
 
+def exponent_cases():
+    """Every byte is an exponent that start takes, and above 63 a stream's lines are those at 63."""
+    for exponent in range(256):
+        yield f"a start at exponent {exponent}", START[:6] + bytes([exponent]) + START[7:], ["1 0"]
+    for name, stream, want in stored_cases():
+        for exponent in (64, 200, 255):
+            other = stored.at_exponent(exponent, stream)
+            if other != stream:
+                yield f"{name} at exponent {exponent}", other, want
+
+
 def sample_case():
     """README shows what the sample stream gives, each line with its meaning behind it."""
     shown = re.findall(r"^    (\d \d(?: [0-9A-F]+)?)  ", (TOP / "README.md").read_text(), re.M)
@@ -112,7 +124,7 @@ def sample_case():
 
 
 faults = []
-for name, data, want in [*document_cases(), *stored_cases(), *sample_case()]:
+for name, data, want in [*document_cases(), *stored_cases(), *exponent_cases(), *sample_case()]:
     got = lines(data)
     if got != want:
         faults.append(f"{name}: {got}, and not {want}")

@@ -14,6 +14,12 @@ def streams():
     return out
 
 
+def at_exponent(exponent, stream):
+    """A stream that starts at exponent 63, at another; one that does not, as it is."""
+    starts = stream[2:4] == b"\1\0" and stream[6:7] == b"\x3f"
+    return stream[:6] + bytes([exponent]) + stream[7:] if starts else stream
+
+
 def sections(text):
     """The lines behind each line `stream K`."""
     out = []

@@ -432,7 +432,7 @@ def streams(t, count):
         elif shape == 7: n, d, calls = r.choice([6, 8, 10, 10, 33, 64]), r.choice([5, 7, 12, 16]), 40
         elif shape == 8: n, d, calls = r.choice([1, 1, 2, 64]), r.randrange(1, 5), 15
         else: n, d, calls = r.randrange(3, 7), r.choice([2, 4, 8]), 30
-        exponent = r.choice([63, 62, 40, 20, 16]) if shape != 9 else r.choice([5, 6, 7, 8, 9, 4, 0])
+        exponent = r.choice([63, 62, 40, 20, 16, 64, 200, 255]) if shape != 9 else r.choice([5, 6, 7, 8, 9, 4, 0])
         c = Case("streams", f"{k}: n {n} D {d} exponent {exponent}")
         lend(c, t, n, d)
         eps, clamp = t.epsilon(), t.clamp()
@@ -477,16 +477,16 @@ def starts(t, count):
         c = Case("starts", str(k))
         n, d = r.choice([1, 2, 7, 64]), r.choice([1, 2, 3, 16])
         lend(c, t, n, d)
-        ok = [n, d, bits(t.epsilon()), bits(t.clamp()), r.choice([0, 5, 63])]
+        ok = [n, d, bits(t.epsilon()), bits(t.clamp()), r.choice([0, 5, 63, 64, 255])]
         c.call(START, *ok, expect=(1, 0))
         for place, value in [(0, 0), (0, 65), (0, BIG), (1, 0), (1, 129), (1, BIG), (2, bits(1.0)), (2, NAN), (2, bits(-5e-324)), (2, bits(INF)),
-                             (3, bits(1.0)), (3, NAN), (3, bits(-1.0)), (3, bits(-INF)), (4, 64), (4, 255)]:
+                             (3, bits(1.0)), (3, NAN), (3, bits(-1.0)), (3, bits(-INF))]:
             a = list(ok)
             a[place] = value
             c.call(START, *a, expect=(0, 1))
         c.numbers(STORE, t.rest(store_room(n, d) - 1))
         c.call(START, *ok, expect=(0, 2))
-        c.call(START, *(ok[:4] + [64]), expect=(0, 1))
+        c.call(START, n, d, NAN, *ok[3:], expect=(0, 1))
         c.numbers(STORE, t.rest(store_room(n, d)))
         c.numbers(WORK, [])
         c.call(START, *ok, expect=(1, 0))
@@ -597,7 +597,7 @@ def high_water(t, count):
         r = t.r
         n, d = r.randrange(2, 5), 128
         rec = any_record(t, n, d, r.choice([1, 2, 4, 7]))
-        rec.exponent = r.choice([63, 40])
+        rec.exponent = r.choice([63, 40, 64, 255])
         rec.epsilon = [0.0, 1e-12, 0.3, -0.0, 1e-3][k % 5]
         rec.high = 128 if k % 4 else 127
         rec.center = None if k % 3 == 0 else r.randrange(n)
@@ -802,7 +802,7 @@ def edges(t):
 def workspace(t, count):
     """Refused by 6: at the first cut nothing but work's first part is altered; after swaps these stand."""
     cases = []
-    for exponent, expect in [(4, (0, 6)), (0, (0, 6)), (5, (1, 0))]:
+    for exponent, expect in [(4, (0, 6)), (0, (0, 6)), (5, (1, 0)), (64, (1, 0)), (255, (1, 0))]:
         for d in (1, 2, 4):
             c = Case("workspace", f"n 2 D {d} exponent {exponent}, fresh")
             lend(c, t, 2, d)
@@ -921,7 +921,6 @@ def unsound(t, count):
         if n < 64: let("n", n + 1)
         if n > 1: let("n", n - 1)
         for v in (0, 129, BIG): let("d", v)
-        for v in (64, 255): let("exponent", v)
         for v in (1.0, -5e-324, float("nan"), INF, -1.0): let("epsilon", v); let("clamp", v)
         for v in (0, 2, 255): put("bl", 0, v); put("br", n - 1, v)
         for v in (n, 64, BIG - 1): let("center", v)
@@ -985,7 +984,7 @@ def perturbed(t, count):
                 small = r.choice([0, 1, 2, 3, n - 1, n])
                 if f == 0: x.n = r.choice([n - 1, n, n + 1])
                 elif f == 1: x.d = r.randrange(5)
-                elif f == 2: x.exponent = r.choice([0, 62, 63, 64])
+                elif f == 2: x.exponent = r.choice([0, 62, 63, 64, 128, 255])
                 elif f == 3: x.epsilon = r.choice([0.0, -0.0, 1 - 2.0**-53, 1.0])
                 elif f == 4: x.clamp = r.choice([0.0, -0.0, 1 - 2.0**-53, 1.0])
                 elif f == 5: x.high = r.randrange(5)

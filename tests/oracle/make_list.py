@@ -26,7 +26,8 @@ oracle's walks are left out altogether.
          39   every qubit read: columns that QR drops, equal singular values
          24   Jacobi's rotations: parallel columns in blocks, pairs beside the tolerance
          30   workspace refusals: 6, at the first cut of a route or behind some of its swaps
-         17   starts refused by 1 and 2, and the start after them
+          7   exponents 63 to 255, on the route that exponent 5 refuses
+         16   starts refused by 1 and 2, and the start after them
           3   calls refused by 4
           4   calls refused by 5
          84   streams that are cut off: one at every byte, one beside the fields of a gate
@@ -34,7 +35,7 @@ oracle's walks are left out altogether.
          12   boundary sizes: n 1, 32, 64, D 1 to 11, store and work just long enough or too short
          24   one qubit measured, reset and projected again and again
          32   epsilon and clamp, 0 and above
-        536   with 2,695 records: 2,349 accepted, 346 refused
+        542   with 2,720 records: 2,375 accepted, 345 refused
 """
 import math
 import pathlib
@@ -379,7 +380,7 @@ def workspaces(r):
 
 def starts_refused():
     for name, args in [
-        ("n 0", (0, 2)), ("n 65", (65, 1)), ("D 0", (2, 0)), ("D 129", (1, 129)), ("exponent 64", (2, 2, 64)),
+        ("n 0", (0, 2)), ("n 65", (65, 1)), ("D 0", (2, 0)), ("D 129", (1, 129)),
         ("epsilon 1", (2, 2, 5, 1.0)), ("epsilon below 0", (2, 2, 5, -5e-324)), ("epsilon NaN", (2, 2, 5, NAN)),
         ("clamp 1", (2, 2, 5, 0.0, 1.0)), ("clamp below 0", (2, 2, 5, 0.0, -1.0)), ("clamp infinite", (2, 2, 5, 0.0, INF)),
     ]:
@@ -387,6 +388,13 @@ def starts_refused():
     for n, d in [(2, 9), (1, 12), (33, 2), (64, 2), (8, 5), (1, 128)]:
         add("refusals 1 and 2", f"n {n} D {d}: store too short", [start(n, d), start(1, 1), project(0, 0)],
             ["1 2", "1 0", "4 0 3FF0000000000000"])
+
+
+def exponents():
+    """Exponents above 63: the route that 5 refuses is done, the multiples of 64 among them."""
+    for exponent in (63, 64, 65, 127, 128, 192, 255):
+        add("exponents above 63", f"exponent {exponent}", [start(3, 2, exponent), gate(1, 2, E), named(0, 2, CX), project(1, 1)],
+            ["1 0", "2 0", "3 0", "4 0 3FE0000000000000"])
 
 
 def calls_refused(r):
@@ -488,6 +496,7 @@ def make_streams():
     every_qubit_read(draw("every qubit read"))
     jacobi_cases(draw("jacobi"))
     workspaces(draw("workspaces"))
+    exponents()
     starts_refused()
     calls_refused(draw("refusals"))
     cut_off(draw("cut off"))

@@ -4,8 +4,9 @@
     python3 tests/oracle/scale.py OUT [--seeds N] [--from SEED] [--fuzz N] [--jobs N] [--programs FOLDER]
 
 OUT has the oracle (build_oracle.py), FOLDER, target/bin by default, `chainrun` and `replay` (rt check chainrun replay).
-Streams: make_list.py's, drawn anew from each seed; those that are the same at every seed are left out. The lines of
-`chainrun` and the whole states and environments of `replay` are compared with the oracle's text.
+Streams: make_list.py's, drawn anew from each seed; those that are the same at every seed are left out. Where one starts
+at exponent 63, an exponent from 63 to 255 is drawn for it. The lines of `chainrun` and the whole states and environments
+of `replay` are compared with the oracle's text, and those of `replay` at exponents 63, 64, 200 and 255 with each other.
 Fuzz: streams of the stored list with bytes changed, put in, taken out or cut off. `chainrun` has to end by itself, with
 status 0 and within ten seconds, and to print what the oracle prints.
 """
@@ -24,7 +25,7 @@ TOP = pathlib.Path(__file__).resolve().parent.parent.parent
 sys.path.insert(0, str(TOP / "tests"))
 import stored
 
-FIXED = {"run cases", "refusals 1 and 2", "bad codes, kinds and lengths", "searched for", "overlaps"}
+FIXED = {"run cases", "exponents above 63", "refusals 1 and 2", "bad codes, kinds and lengths", "searched for", "overlaps"}
 
 
 def run(words, data):
@@ -37,13 +38,20 @@ def one_seed(job):
     make_list.SEED = seed
     make_list.streams.clear()
     make_list.make_streams()
-    drawn = [(c, n, data) for c, n, data, _, _ in make_list.streams if c not in FIXED]
-    _, text = run([programs / "replay"], b"".join(struct.pack("<I", len(d)) + d for _, _, d in drawn))
+    r = random.Random(seed)
+    plain = [(c, n, data) for c, n, data, _, _ in make_list.streams if c not in FIXED]
+    drawn = [(c, n, stored.at_exponent(r.randrange(63, 256), data)) for c, n, data in plain]
+    replayed = lambda streams: run([programs / "replay"], b"".join(struct.pack("<I", len(d)) + d for d in streams))[1]
+    text = replayed(d for _, _, d in drawn)
     count, faults = collections.Counter(), []
-    for (category, name, data), states in zip(drawn, stored.sections(text.decode()), strict=True):
+    for exponent in (63, 64, 200, 255):
+        if replayed(stored.at_exponent(exponent, d) for _, _, d in plain) != text:
+            faults.append(f"seed {seed}: whole states at exponent {exponent} differ")
+    for (category, name, data), (_, _, before), states in zip(drawn, plain, stored.sections(text.decode()), strict=True):
         want = make_list.kept(make_list.ask(oracle, data))
         lines = stored.answers(want)
         count[category] += 1
+        count["raised"] += data != before
         count["records"] += len(lines)
         if states != want:
             faults.append(f"seed {seed}, {category}, {name}: whole states differ")
@@ -105,10 +113,10 @@ def main():
         for found_ends, found in pool.imap_unordered(fuzzed, [(oracle, a.programs, k, min(chunk, a.fuzz - k)) for k in range(0, a.fuzz, chunk)]):
             ends.update(found_ends)
             faults += found
-    records = total.pop("records", 0)
+    records, raised = total.pop("records", 0), total.pop("raised", 0)
     for category, count in sorted(total.items()):
         print(f"{count:8} {category}")
-    print(f"{sum(total.values())} streams, {records} records; fuzz: {sum(ends.values())} inputs, {dict(ends)}")
+    print(f"{sum(total.values())} streams, {raised} at an exponent above 63, {records} records; fuzz: {sum(ends.values())} inputs, {dict(ends)}")
     for f in faults[:20]:
         print(f)
     print(f"{len(faults)} differences")

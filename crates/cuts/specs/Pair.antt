@@ -13,7 +13,7 @@ use Rattle.complex.specs.Numbers.{count}
 use Rattle.complex.specs.Parts.{put}
 use Rattle.model.specs.declared.Chain.{Chain}
 use Rattle.model.specs.declared.Center.{Center}
-use Rattle.model.specs.Chain.{bondLeft, bondRight, withCenter, withBond, withTruncation}
+use Rattle.model.specs.Chain.{withCenter, withBond, withTruncation}
 use Rattle.model.specs.Truncation.{recorded, workspace}
 use Rattle.model.specs.Slots.{slotRoom, slotOf}
 use Rattle.cutting.specs.Shape.{shapeOf, room, room-fits}

@@ -1,5 +1,6 @@
 -- Laws of the definitions, and the proofs of the statements. The checker vouches for these.
 pub mod AfterStates
+pub mod AsAt63
 pub mod ColumnLaws
 pub mod CutEnds
 pub mod CutLaws
@@ -17,6 +18,7 @@ pub mod Gates
 pub mod JacobiLaws
 pub mod Labels
 pub mod MoveLaws
+pub mod NeverSix
 pub mod OrderLaws
 pub mod PinnedProof
 pub mod Promises
@@ -32,7 +34,6 @@ pub mod StartLaws
 pub mod SvdLaws
 pub mod Tests
 pub mod Tracked
-pub mod Uncapped
 pub mod UnitCut
 pub mod UnitFloats
 pub mod UnitGates

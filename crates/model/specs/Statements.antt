@@ -8,9 +8,9 @@ pub mod Demand1Cuts
 pub mod Demand3
 pub mod Product
 pub mod ZeroSigns
+pub mod Uncapped
 pub mod Factorings
 pub mod CutsAndMoves
 pub mod Roots
-pub mod Uncapped
 pub mod Marked
 pub mod Promised

@@ -51,7 +51,7 @@ impl Chain {
         let unit = |x: f64| x >= 0.0 && x < 1.0;
         if !(1..=64).contains(&n)
             || !(1..=128).contains(&d)
-            || exponent > 63
+            || exponent > 255
             || !unit(epsilon)
             || !unit(clamp)
         {
@@ -63,7 +63,8 @@ impl Chain {
         if lent.start_needs_work && lent.work < work_needed(d) {
             return Err(2);
         }
-        let limits = ResolvedLimits { mps_workspace_qubits: Limit { value: exponent } };
+        // W9: above 63 the Rust is asked at 63
+        let limits = ResolvedLimits { mps_workspace_qubits: Limit { value: exponent.min(63) } };
         let mut b = MpsBackend::with_limits(0, d, &limits);
         b.set_svd_epsilon(epsilon);
         b.init(n, 64).unwrap();

@@ -75,10 +75,10 @@ impl Record {
             high: w.size(), discarded: w.number(),
         }
     }
-    /// Document 01, "A record is sound if".
+    /// Document 01, "A record is sound if", with the exponents of W9.
     fn sound(&self) -> bool {
         let n = self.n;
-        let ranges = (1..=64).contains(&n) && (1..=128).contains(&self.d) && self.exponent <= 63 && unit(self.epsilon) && unit(self.clamp);
+        let ranges = (1..=64).contains(&n) && (1..=128).contains(&self.d) && self.exponent <= 255 && unit(self.epsilon) && unit(self.clamp);
         ranges
             && self.bl[0] == 1
             && self.br[n - 1] == 1

@@ -93,6 +93,15 @@ chain-answers : answersOf calls started
     ≡ accepted none ∷ accepted none ∷ accepted none ∷ accepted (weight oneF) ∷ refused 4 ∷ accepted (bit true) ∷ accepted none ∷ accepted none ∷ accepted nothing ∷ []
 chain-answers = sample .0 ∙ machine-answers
 
+-- and so it does under the largest exponent
+start-uncapped : startCall 3 1 small small 255 store .answer ≡ answer.Done
+unfolding startCall settingsFit le lt eq ofBits
+start-uncapped = refl
+
+sample-uncapped : (let st = startCall 3 1 small small 255 store in answersOf calls (held (st .chain) (st .store)) ≡ machineAnswers 3 1 12 calls fresh)
+unfolding Demand3 fits
+sample-uncapped = demand3 3 1 255 small small store tt tt (lit≤ tt) (lit≤ tt) start-uncapped calls calls-f64 calls-allowed .0
+
 -- ---- the product clause: gates on the pair 2, 0, which stands apart and in the order against the chain's
 
 abbrev before : List Call

@@ -16,7 +16,8 @@ use Rattle.model.specs.Laws.RootsOfSquares as roots
 use Rattle.model.specs.Laws.Demand3Proof as machine
 use Rattle.model.specs.Laws.Demand3Product as products
 use Rattle.model.specs.Laws.ZeroSigns as signs
-use Rattle.model.specs.Laws.Uncapped as uncapped
+use Rattle.model.specs.Laws.NeverSix as uncapped
+use Rattle.model.specs.Laws.AsAt63 as exponents
 
 pub promised : Promised
 promised = record {
@@ -54,5 +55,6 @@ promised = record {
   run-clause = products.run-clause;
   zero-signs = signs.zero-signs;
   never-six = uncapped.never-six;
+  as-at-63 = exponents.as-at-63;
   marked = examples.marked;
 }

@@ -1,6 +1,6 @@
--- With a workspace exponent of 64 or more no call answers 6: a sound record's bonds are at most 128, so that a cut works in at most 22 · 128 · 128 numbers.
+-- With a workspace exponent of 64 or more no call answers 6: a sound record's bonds are at most 128, so that a cut works in at most 22 * 128 * 128 numbers.
 use Prim.Native.Nat.{ℕ, _+_, _^_, _≤_, _<_}
-use mathlib.Core.Path.{_≡_, sym, subst, _∙_}
+use mathlib.Core.Path.{sym, subst, _∙_}
 use mathlib.Core.Logic.{inl, inr, _≢_}
 use mathlib.Core.Bool.{Bool, true, not, _&&_}
 use mathlib.Core.List.{List, [], _∷_}
@@ -11,19 +11,21 @@ use lib.Ieee.{Float}
 use lib.Ieee.Fits.{and-l, and-r}
 use Rattle.complex.specs.declared.Complex.{Complex}
 use Rattle.gates.specs.Named.{matrixOf}
-use Rattle.model.specs.Slots.{State, held}
-use Rattle.model.specs.Routing.{Step, stepped, runSteps}
+use Rattle.model.specs.Slots.{State, held, lefts, rights}
+use Rattle.model.specs.Truncation.{workspace}
+use Rattle.model.specs.Routing.{Step, stepped}
 use Rattle.model.specs.Start.{freshChain}
 use Rattle.model.specs.Answers.{viewApplied}
 use Rattle.model.specs.Calls.{startCall, gateCall, namedGateCall}
 use Rattle.model.specs.Lists.{Call, gate, named, project, measure, reset, answerOf, finalState}
 use Rattle.model.specs.Statements.Soundness.{Sound}
-use Rattle.model.specs.Statements.Table.{Row, FirstGround, AboveWorkspace, cutRows, gateSteps, projectTable, measureTable, resetTable}
+use Rattle.model.specs.Statements.Table.{Row, FirstGround, cutRows, gateSteps, projectTable, measureTable, resetTable, environmentTable}
 use Rattle.model.specs.Statements.Demand1Sound.{start-accepted-sound, list-keeps}
 use Rattle.model.specs.Statements.Uncapped.{NeverSix}
+use Rattle.model.specs.Laws.SoundFacts.{left-most, right-most}
 use Rattle.model.specs.Laws.SoundKept.{Inside, stepped-keeps, gate-accepted}
 use Rattle.model.specs.Laws.StartLaws.{start-accepted}
-use Rattle.model.specs.Laws.Refusals.{project-refusals, measure-refusals, reset-refusals}
+use Rattle.model.specs.Laws.Refusals.{project-refusals, measure-refusals, reset-refusals, left-environment-refusals, right-environment-refusals}
 use Rattle.model.specs.Laws.Gates.{run-first, gate-ran, run-number}
 
 abbrev Uncapped : State → Type 0
@@ -31,19 +33,17 @@ Uncapped s = 64 ≤ s .chain .«workspace_exponent»
 
 -- ---- cuts
 
-within-workspace : (k : ℕ) (s : State) → Sound (s .chain) → k + 1 < s .chain .«num_qubits» → Uncapped s → AboveWorkspace k s → ⊥
-within-workspace k s h inside l above =
-    let most = h .settings .cap .1 in
-    let high = h .high-water .1 in
-    let more : 2 ^ 64 ≤ 2 ^ s .chain .«workspace_exponent» = pow-le-pow-right {n = 2} (omega arith) l in
-    let left = h .bonds .left-range k (omega arith) .1 in
-    let mid = h .bonds .right-range k (omega arith) .1 in
-    let right = h .bonds .right-range (k + 1) inside .1 in
-    omega (arith, mul-le-mul left right, mul-le-mul mid right, mul-le-mul high high, mul-le-mul most most)
+-- 2 to an exponent of 63 or more is enough for a cut of a sound record
+pub workspace-enough : (k : ℕ) (s : State) → Sound (s .chain) → k + 1 < s .chain .«num_qubits» → (e : ℕ) → 63 ≤ e → workspace (lefts s k) (rights s k) (rights s (k + 1)) ≤ 2 ^ e
+workspace-enough k s h inside e l =
+    let right = right-most (s .chain) h (k + 1) inside in
+    let cap = h .settings .cap .1 in
+    let room : 2 ^ 63 ≤ 2 ^ e = pow-le-pow-right {n = 2} (omega arith) l in
+    omega (arith, mul-le-mul (left-most (s .chain) h k (omega arith)) right, mul-le-mul (right-most (s .chain) h k (omega arith)) right, mul-le-mul cap cap)
 
 cuts-not-6 : (xs : List Step) (s : State) → Sound (s .chain) → Inside (s .chain .«num_qubits») xs → Uncapped s → (k : ℕ) → FirstGround (cutRows xs s) k → k ≢ 6
 cuts-not-6 [] s h inside l k e six = omega arith
-cuts-not-6 (x ∷ xs) s h inside l k (inl (above, e)) six = within-workspace (x .site) s h (inside .0) l above
+cuts-not-6 (x ∷ xs) s h inside l k (inl (above, e)) six = omega (arith, workspace-enough (x .site) s h (inside .0) (s .chain .«workspace_exponent») (omega arith))
 cuts-not-6 (x ∷ xs) s h inside l k (inr (_, inl (_, e))) six = omega arith
 cuts-not-6 (x ∷ xs) s h inside l k (inr (_, inr (_, rest))) six =
     let y = stepped-keeps x s h (inside .0) in
@@ -84,4 +84,6 @@ never-six = record {
       let s = held (st .chain) (st .store) in
       let x = start-accepted n d epsilon clamp exponent store done in
       call-not-6 c (finalState cs s) (rw (list-keeps cs s (start-accepted-sound n d epsilon clamp exponent store done) .exponent, x .is) l);
+  left-environment = λ s work out from site. table-not-6 (environmentTable s work out from site) tt _ (left-environment-refusals s work out from site);
+  right-environment = λ s work out site to. table-not-6 (environmentTable s work out to site) tt _ (right-environment-refusals s work out site to);
 }
