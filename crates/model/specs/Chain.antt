@@ -101,9 +101,3 @@ withBits c bits = built (settingsOf c) (bondsOf c) (labelsOf c) bits (c .center)
 abbrev pub withTruncation : Chain → ℕ → Float → Chain
 withTruncation c high discarded =
     built (settingsOf c) (bondsOf c) (labelsOf c) (c .«classical_bits») (c .center) (record { high-water = high; discarded = discarded })
-
--- another workspace exponent
-abbrev pub withExponent : Chain → ℕ → Chain
-withExponent c e =
-    let settings : ChainSettings = record { qubits = c .«num_qubits»; cap = c .«max_bond_dim»; exponent = e; epsilon = c .«svd_epsilon»; clamp = c .«norm_clamp_min» } in
-    built settings (bondsOf c) (labelsOf c) (c .«classical_bits») (c .center) (cutTotalsOf c)

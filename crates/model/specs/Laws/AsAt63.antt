@@ -15,7 +15,6 @@ use Rattle.model.specs.declared.Center.{Center}
 use Rattle.model.specs.declared.Center.the-variants.{Unknown, At}
 use Rattle.model.specs.declared.Chain.{Chain}
 use Rattle.model.specs.declared.WeightSide.the-variants.{Left, Right}
-use Rattle.model.specs.Chain.{withExponent}
 use Rattle.model.specs.Slots.{State, held, storeRoom}
 use Rattle.model.specs.Svd.{values, rawValue, anyNan}
 use Rattle.model.specs.Truncation.{resolvable}
@@ -32,7 +31,7 @@ use Rattle.model.specs.Lists.{Call, gate, named, project, measure, reset
 use Rattle.model.specs.Statements.Table.{pairOf, rankOf, gateSteps}
 use Rattle.model.specs.Statements.Pinned.{keepsCentre, preparedFor}
 use Rattle.model.specs.Statements.Soundness.{Sound}
-use Rattle.model.specs.Statements.Uncapped.{under, AsAt63}
+use Rattle.model.specs.Statements.Uncapped.{withExponent, under, AsAt63}
 use Rattle.model.specs.Laws.MoveLaws.{lastSite, established-narrowed}
 use Rattle.model.specs.Laws.SoundKept.{narrowed-keeps, attempt-keeps, Inside, stepped-keeps, gate-accepted}
 use Rattle.model.specs.Laws.StartLaws.{start-accepted}

@@ -6,7 +6,8 @@ use mathlib.Core.Logic.{_≢_}
 use mathlib.Core.List.{List}
 use lib.Ieee.{Float}
 use Rattle.model.specs.declared.Answer.the-variants as answer
-use Rattle.model.specs.Chain.{withExponent}
+use Rattle.model.specs.declared.Chain.{Chain}
+use Rattle.model.specs.Chain.{ChainSettings, bondsOf, labelsOf, cutTotalsOf, built}
 use Rattle.model.specs.Slots.{State, held}
 use Rattle.model.specs.Answers.{viewContracted}
 use Rattle.model.specs.Calls.{startCall, leftEnvironmentCall, rightEnvironmentCall}
@@ -23,7 +24,12 @@ pub record NeverSix : Type 0 where
   pub left-environment : (s : State) (work out : List Float) (from site : ℕ) → viewContracted (leftEnvironmentCall s work out from site .answer) .number ≢ 6
   pub right-environment : (s : State) (work out : List Float) (site to : ℕ) → viewContracted (rightEnvironmentCall s work out site to .answer) .number ≢ 6
 
--- a state with another workspace exponent
+-- a record, and a state, with another workspace exponent
+abbrev pub withExponent : Chain → ℕ → Chain
+withExponent c e =
+    let settings : ChainSettings = record { qubits = c .«num_qubits»; cap = c .«max_bond_dim»; exponent = e; epsilon = c .«svd_epsilon»; clamp = c .«norm_clamp_min» } in
+    built settings (bondsOf c) (labelsOf c) (c .«classical_bits») (c .center) (cutTotalsOf c)
+
 abbrev pub under : ℕ → State → State
 under e s = held (withExponent (s .chain) e) (s .store)
 
