@@ -1,4 +1,4 @@
--- W9. A workspace exponent of 64 or more is no cap: no call answers 6. From 63 on nothing but the record's own field tells one exponent from another.
+-- W9. A workspace exponent of 64 or more is no cap: no call answers 6. From 63 to 255 nothing but the record's own field tells one exponent from another.
 -- Statements only; `Laws/NeverSix` and `Laws/AsAt63` prove them.
 use Prim.Native.Nat.{ℕ, _≤_}
 use mathlib.Core.Path.{_≡_}
