@@ -35,15 +35,15 @@ under e s = held (withExponent (s .chain) e) (s .store)
 
 -- an exponent from 63 to 255 gives the answers of 63, and its states but for the exponent itself
 pub record AsAt63 : Type 0 where
-  -- of start any byte does
+  -- a start, at any byte
   pub start : (n d : ℕ) (epsilon clamp : Float) (exponent : ℕ) (store : List Float) → exponent ≤ 255
       → (let a = startCall n d epsilon clamp exponent store in
       let b = startCall n d epsilon clamp 63 store in
       (a .answer ≡ b .answer) × (a .answer ≡ answer.Done → held (a .chain) (a .store) ≡ under exponent (held (b .chain) (b .store))))
-  -- on any state, of a sound record or not
+  -- a list of calls, on any state, of a sound record or not
   pub calls : (cs : List Call) (s : State) (e : ℕ) → 63 ≤ e → e ≤ 255
       → (answersOf cs (under e s) ≡ answersOf cs (under 63 s)) × (finalState cs (under e s) ≡ under e (finalState cs (under 63 s)))
-  -- environments leave the state, and of them any byte does
+  -- an environment, at any byte; it leaves the state
   pub left-environment : (s : State) (work out : List Float) (from site e : ℕ) → e ≤ 255
       → leftEnvironmentCall (under e s) work out from site ≡ leftEnvironmentCall (under 63 s) work out from site
   pub right-environment : (s : State) (work out : List Float) (site to e : ℕ) → e ≤ 255
