@@ -46,14 +46,15 @@ pub record SlotsOf (d k : ℕ) (r : Slots) : Type 0 where
 abbrev pub recordedCut : Chain → ℕ → ℕ → List Float → Center → Chain
 recordedCut c k chi shares at = withCenter (withTruncation (withBond c k chi) (max (c .«bond_high_water») chi) (recorded (c .«truncation_discarded») shares)) at
 
--- the numbers that a cut of them works in, and the products that these are made of
+-- the numbers that a cut of these bonds works in
 abbrev needed : Bonds → ℕ
 needed b = workspace (b .left) (b .mid) (b .right)
 
+-- the products that they are made of, where the bonds are bytes
 pub products-most : (b : Bonds) → Bytes b → (b .left * b .right ≤ 65025) × (b .mid * b .right ≤ 65025)
 products-most b h = (mul-le-mul (h .left) (h .right), mul-le-mul (h .mid) (h .right))
 
--- so many do not reach 2 ^ 63, at which 2 to the exponent can be cut off: the machine can shift no further
+-- so they are below 2 ^ 63, and 2 to the exponent can be cut off there: the machine can shift no further
 pub shifted : (e : ℕ) (b : Bonds) → Bytes b → ltb (1 * 2 ^ min e 63 % 18446744073709551616) (needed b) ≡ ltb (2 ^ e) (needed b)
 shifted e b h =
     let below : min e 63 ≤ 63 = omega arith in
