@@ -1,6 +1,6 @@
 -- What a call leaves that is not refused is what the model defines.
-use Prim.Native.Nat.{ℕ, zero, suc}
-use mathlib.Core.Path.{_≡_, refl, sym, ap, _∙_}
+use Prim.Native.Nat.{ℕ}
+use mathlib.Core.Path.{_≡_, sym, ap, _∙_}
 use mathlib.Core.List.{List, _++_}
 use mathlib.Core.Bool.{Bool, cond}
 use lib.Dec.{eqb}
@@ -10,18 +10,17 @@ use Rattle.complex.specs.declared.Complex.{Complex}
 use Rattle.model.specs.declared.Answer.{Answer}
 use Rattle.model.specs.declared.Answer.the-variants as answer
 use Rattle.model.specs.declared.Applied.{Applied}
-use Rattle.model.specs.declared.Applied.the-variants as applied
 use Rattle.model.specs.declared.Projected.{Projected}
 use Rattle.model.specs.declared.Measured.{Measured}
 use Rattle.model.specs.declared.Measured.the-variants as measured
 use Rattle.model.specs.declared.Contracted.the-variants as contracted
 use Rattle.model.specs.Chain.{siteOf}
 use Rattle.model.specs.Slots.{State}
-use Rattle.model.specs.Cut.{Ran, ran}
-use Rattle.model.specs.Routing.{gateRun}
+use Rattle.model.specs.Routing.{gateRun, gateReason}
 use Rattle.model.specs.Born.{drawnAt, projectedAt, resetAt, readied}
 use Rattle.model.specs.Environment.{Env}
-use Rattle.model.specs.Calls.{after, cleared, gateRefusal, appliedOf, gateAfter, gateCall, projectRefusal, projectAnswer, projectCall, measureRefusal, flagged, measureCall, resetRefusal, resetCall, walked, envRefusal, envAfter}
+use Rattle.model.specs.Calls.{after, cleared, gateRefusal, gateCall, projectRefusal, projectAnswer, projectCall, measureRefusal, flagged, measureCall, resetRefusal, resetCall, walked, envRefusal, envAfter}
+use Rattle.cuts.specs.Answered.{answered, answeredBy}
 
 -- the test of the number
 ended : {A : Type 0} {number : ℕ} (x y z : A) → number ≡ 0 → z ≡ x → z ≡ cond (eqb number 0) x y
@@ -29,15 +28,10 @@ ended x y z none h = h ∙ ap (λ (n : ℕ). cond (eqb n 0) x y) (sym none)
 
 -- ---- a gate
 
-pub applied-above : (k : ℕ) → (k ≡ 0 → ⊥) → applied.Refused k ≡ appliedOf k
-applied-above zero above = absurd (above refl)
-applied-above (suc k) above = refl
-
-pub gate-ends : (s : State) (work : List Float) (q0 q1 : ℕ) (gate : List (List Complex)) (refused : ℕ) (a : Applied) (t : State) (left : List Float)
-    → gateRefusal s work q0 q1 gate ≡ 0 → a ≡ appliedOf refused → ran refused t ≡ gateRun gate q0 q1 s → left ≡ cleared (s .chain) work → after a t left ≡ gateCall s work q0 q1 gate
+pub gate-ends : (s : State) (work : List Float) (q0 q1 : ℕ) (gate : List (List Complex)) (a : Applied) (t : State) (left : List Float)
+    → gateRefusal s work q0 q1 gate ≡ 0 → answered a t ≡ answeredBy (gateReason gate q0 q1 s) (gateRun gate q0 q1 s) → left ≡ cleared (s .chain) work → after a t left ≡ gateCall s work q0 q1 gate
 unfolding gateCall
-gate-ends s work q0 q1 gate refused a t left none ea er el =
-    ended _ _ _ none ((λ i. after (ea i) t (el i)) ∙ ap (λ (r : Ran). gateAfter r (cleared (s .chain) work)) er)
+gate-ends s work q0 q1 gate a t left none er el = ended _ _ _ none (λ i. after (er i .answer) (er i .state) (el i))
 
 -- ---- a projection, a measurement, a reset; the site is the qubit's
 

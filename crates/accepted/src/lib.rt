@@ -6,7 +6,6 @@ use complex::Complex;
 use environments::compute_left_env;
 use environments::compute_right_env;
 use environments::write_environment;
-use model::Applied;
 use model::Chain;
 use model::Contracted;
 use model::Gated;
@@ -20,20 +19,9 @@ use refusals::work_room;
 use routing::apply_two_qubit_gate;
 ghost use mathlib.Core.Path.{_≡_};
 ghost use Rattle.model.specs.Slots.{held};
-ghost use Rattle.model.specs.Calls.{after, walked, appliedOf, gateRefusal, gateCall, projectRefusal, projectCall, measureRefusal, measureCall, resetRefusal, resetCall, envRefusal, leftEnvironmentCall, rightEnvironmentCall};
+ghost use Rattle.model.specs.Calls.{after, walked, gateRefusal, gateCall, projectRefusal, projectCall, measureRefusal, measureCall, resetRefusal, resetCall, envRefusal, leftEnvironmentCall, rightEnvironmentCall};
 
 // ---- gates
-
-// What a run's number says as an answer.
-fn applied(refused: u8) -> Applied
-    ensures { λ r. ⌜ r ≡ appliedOf refused ⌝ }
-{
-    if refused == 0 {
-        Applied::Done
-    } else {
-        Applied::Refused(refused)
-    }
-}
 
 // A gate on the qubits q0 and q1, routed to them by swaps.
 pub fn run_gate(
@@ -48,13 +36,9 @@ pub fn run_gate(
     ensures { λ r. ⌜ after (r .answer) (held (r .chain) (now (store .exit))) (now (work .exit)) ≡ gateCall (held chain (now (store .entry))) (now (work .entry)) q0 q1 gate ⌝ }
 {
     let room = work_room(chain.max_bond_dim);
-    let run = apply_two_qubit_gate(chain, store, &mut work[..room], gate, q0, q1);
+    let out = apply_two_qubit_gate(chain, store, &mut work[..room], gate, q0, q1);
     fill_zero(&mut work[..room]);
-    let after = run.chain;
-    Gated {
-        answer: applied(run.refused),
-        chain: after,
-    }
+    out
 }
 
 // ---- outcomes

@@ -1,6 +1,6 @@
 -- An attempt and a cut by their branches, and that each leaves the chain ready for the next.
 use Prim.Native.Nat.{ℕ, _+_, _^_, _<_}
-use mathlib.Core.Path.{_≡_, sym, ap, ap₂, _∙_, subst}
+use mathlib.Core.Path.{_≡_, refl, sym, ap, ap₂, _∙_, subst}
 use mathlib.Core.Bool.{Bool, true, false, not, _&&_, _||_, cond}
 use mathlib.Core.List.{List}
 use native.Mathlib.Omega.{arith}
@@ -9,6 +9,9 @@ use lib.ListN.{length}
 use lib.Ieee.{Float}
 use Rattle.complex.specs.declared.Complex.{Complex}
 use Rattle.model.specs.declared.Chain.{Chain}
+use Rattle.model.specs.declared.Applied.{Applied}
+use Rattle.model.specs.declared.Applied.the-variants as applied
+use Rattle.model.specs.declared.Reason.{Reason}
 use Rattle.model.specs.declared.Center.the-variants.{At}
 use Rattle.model.specs.declared.WeightSide.{WeightSide}
 use Rattle.model.specs.declared.WeightSide.the-variants.{Right}
@@ -17,9 +20,7 @@ use Rattle.model.specs.Svd.{Svd, values}
 use Rattle.model.specs.Truncation.{rank, resolvable, share, cutRank, workspace}
 use Rattle.model.specs.Pair.{pairSvd, leftSite, rightSite}
 use Rattle.model.specs.Moves.{Prepared, prepared, preparedOn, established}
-use Rattle.model.specs.Cut.{Tried, tried, Ran, ran, known, canLose, weightSite, cutWith, attempt, adjacent}
-use Rattle.model.specs.Statements.Table.{pairOf}
-use Rattle.model.specs.Statements.Pinned.{keepsCentre, preparedFor}
+use Rattle.model.specs.Cut.{known, canLose, keepsCentre, preparedFor, pairOf, reasonOf, reasonIn, weightSite, cutWith, attempt, adjacent, attemptReason, adjacentReason}
 use Rattle.model.specs.Statements.Soundness.{Sound}
 use Rattle.model.specs.Laws.MoveLaws.{established-narrowed}
 use Rattle.model.specs.Laws.SoundKept.{Keeps, narrowed-keeps, prepared-narrowed, attempt-keeps, adjacent-keeps}
@@ -30,6 +31,8 @@ use Rattle.cutting.specs.declared.Kept.{Kept}
 use Rattle.cutting.specs.Shape.{standing, nanIn, Made}
 use Rattle.cutting.specs.Kept.{KeptOf}
 use Rattle.moves.specs.Ready.{Ready}
+use Rattle.cuts.specs.declared.Cut.{Cut}
+use Rattle.cuts.specs.Answered.{Answered, answered, answeredBy, ranOf, attemptBy, cutOf, Leaves}
 use Rattle.cuts.specs.Pair.{pairBonds, recordedCut}
 
 -- ---- what is left ready
@@ -50,11 +53,12 @@ module _ (c r : Chain) (store out : List Float) (h : Sound c) (k : ℕ) (inside 
   pub established-keeps : held r out ≡ established k (held c store) → Keeps c r
   established-keeps e = subst (λ (t : State). Keeps c (t .chain)) (sym e) (narrowed-keeps (established-narrowed k (held c store) h (omega arith)))
 
-  pub tried-keeps : (gate : List (List Complex)) (n : ℕ) (b : Bool) → tried n b (held r out) ≡ attempt gate k (held c store) → Keeps c r
-  tried-keeps gate n b e = subst (λ (t : Tried). Keeps c (t .state .chain)) (sym e) (attempt-keeps gate k (held c store) h inside)
+  -- an attempt, and a cut
+  pub attempt-kept : (gate : List (List Complex)) (a : Applied) (reason : Reason) → answered a (held r out) ≡ answeredBy reason (ranOf (attempt gate k (held c store))) → Keeps c r
+  attempt-kept gate a reason e = subst (λ (x : Answered). Keeps c (x .state .chain)) (sym e) (attempt-keeps gate k (held c store) h inside)
 
-  pub ran-keeps : (gate : List (List Complex)) (n : ℕ) → ran n (held r out) ≡ adjacent gate k (held c store) → Keeps c r
-  ran-keeps gate n e = subst (λ (t : Ran). Keeps c (t .state .chain)) (sym e) (adjacent-keeps gate k (held c store) h inside)
+  pub cut-kept : (gate : List (List Complex)) (a : Applied) (reason : Reason) → answered a (held r out) ≡ answeredBy reason (adjacent gate k (held c store)) → Keeps c r
+  cut-kept gate a reason e = subst (λ (x : Answered). Keeps c (x .state .chain)) (sym e) (adjacent-keeps gate k (held c store) h inside)
 
 -- ---- one cut, of the bonds b: r is the decomposition, and w begins with it
 
@@ -66,9 +70,9 @@ module _ (gate : List (List Complex)) (k : ℕ) (s : State) (b : Bonds) (eb : b 
   pair-in = rw eb
 
   module _ (maintained : Bool) (side : WeightSide) (w : List Float) (r : Decomposed) (m : Made (b .left) (b .right) pairIn w r) where
-    pub cut-nan : r .nan ≡ true → tried 7 false s ≡ cutWith gate k maintained (prepared side s)
+    pub cut-nan : r .nan ≡ true → Leaves (cutOf (applied.Refused 7) false (s .chain)) (s .store) (reasonIn gate k s) (cutWith gate k maintained (prepared side s))
     unfolding cutWith
-    cut-nan z = let y : nanIn (pairOf gate k s) ≡ true = ap nanIn (sym pair-in) ∙ sym (m .nan) ∙ z in rw y
+    cut-nan z = let y : nanIn (pairOf gate k s) ≡ true = ap nanIn (sym pair-in) ∙ sym (m .nan) ∙ z in rw y (record { answers = refl; again = refl })
 
     module _ (z : r .nan ≡ false) (kept : Kept) (g : KeptOf (s .chain .«svd_epsilon») (s .chain .«max_bond_dim») (values (standing (r .shape) w (r .order))) kept) where
       abbrev chi : ℕ
@@ -83,24 +87,36 @@ module _ (gate : List (List Complex)) (k : ℕ) (s : State) (b : Bonds) (eb : b 
       kept-rank : kept .chi ≡ chi
       kept-rank = g .rank ∙ ap (λ (d : Svd). rank (s .chain .«svd_epsilon») (s .chain .«max_bond_dim») (values d)) whole
 
+      kept-reason : kept .reason ≡ reasonIn gate k s
+      kept-reason = g .reason ∙ ap (reasonOf s) whole
+
       kept-lost : kept .resolvable ≡ resolvable (values (pairOf gate k s)) chi
       kept-lost = g .resolvable ∙ ap₂ (λ (d : Svd) (n : ℕ). resolvable (values d) n) whole kept-rank
 
       kept-share : sharesOf (kept .share) ≡ share (values (pairOf gate k s)) chi
       kept-share = g .share ∙ ap₂ (λ (d : Svd) (n : ℕ). share (values d) n) whole kept-rank
 
-      pub cut-again : not maintained && kept .resolvable ≡ true → tried 0 true s ≡ cutWith gate k maintained (prepared side s)
+      pub cut-again : not maintained && kept .resolvable ≡ true → Leaves (cutOf (applied.Done (kept .reason)) true (s .chain)) (s .store) (reasonIn gate k s) (cutWith gate k maintained (prepared side s))
       unfolding cutWith
-      cut-again t = let y = ap (λ (x : Bool). not maintained && x) (sym kept-lost) ∙ t in rw (not-nan, y)
+      cut-again t = let y = ap (λ (x : Bool). not maintained && x) (sym kept-lost) ∙ t in rw (not-nan, y) (record { answers = ap (λ (x : Reason). answered (applied.Done x) s) kept-reason; again = refl })
 
       pub cut-stored : not maintained && kept .resolvable ≡ false
-          → tried 0 false
-          (held (recordedCut (s .chain) k (kept .chi) (sharesOf (kept .share)) (cond maintained (At (weightSite side k)) (s .chain .center)))
+          → Leaves (cutOf (applied.Done (kept .reason)) false (recordedCut (s .chain) k (kept .chi) (sharesOf (kept .share)) (cond maintained (At (weightSite side k)) (s .chain .center))))
           (withSite (s .chain .«max_bond_dim») (k + 1) (rightSite side (kept .chi) (b .right) (standing (r .shape) w (r .order)))
-          (withSite (s .chain .«max_bond_dim») k (leftSite side (b .left) (kept .chi) (standing (r .shape) w (r .order))) (s .store))))
-          ≡ cutWith gate k maintained (prepared side s)
+          (withSite (s .chain .«max_bond_dim») k (leftSite side (b .left) (kept .chi) (standing (r .shape) w (r .order))) (s .store)))
+          (reasonIn gate k s) (cutWith gate k maintained (prepared side s))
       unfolding cutWith
-      cut-stored t = let y = ap (λ (x : Bool). not maintained && x) (sym kept-lost) ∙ t in rw (not-nan, y, kept-share, kept-rank, whole, eb)
+      cut-stored t = let y = ap (λ (x : Bool). not maintained && x) (sym kept-lost) ∙ t in rw (not-nan, y, kept-share, kept-rank, kept-reason, whole, eb) (record { answers = refl; again = refl })
+
+-- ---- from equal states
+
+module _ (gate : List (List Complex)) (k : ℕ) where
+  pub cut-at : (maintained : Bool) (c : Cut) (store : List Float) (p q : Prepared) → p ≡ q
+      → Leaves c store (reasonIn gate k (p .state)) (cutWith gate k maintained p) → Leaves c store (reasonIn gate k (q .state)) (cutWith gate k maintained q)
+  cut-at maintained c store p q = subst (λ (x : Prepared). Leaves c store (reasonIn gate k (x .state)) (cutWith gate k maintained x))
+
+  pub attempt-at : (s t : State) → s ≡ t → attemptBy gate k s ≡ attemptBy gate k t
+  attempt-at s t = ap (attemptBy gate k)
 
 -- ---- one attempt at a pair of bonds b
 
@@ -114,28 +130,26 @@ pub keeps-centre : (k : ℕ) (s : State) (b : Bonds) → b ≡ pairBonds (s .cha
 keeps-centre k s b eb e = rw eb at e
 
 module _ (gate : List (List Complex)) (k : ℕ) (s : State) (b : Bonds) (eb : b ≡ pairBonds (s .chain) k) where
-  pub attempt-above : above s b ≡ true → tried 6 false s ≡ attempt gate k s
+  pub attempt-above : above s b ≡ true → Leaves (cutOf (applied.Refused 6) false (s .chain)) (s .store) (attemptReason gate k s) (attempt gate k s)
   unfolding attempt
-  attempt-above e = rw (rw eb at e)
+  attempt-above e = rw (rw eb at e) (record { answers = refl; again = refl })
 
-  pub attempt-kept : (t : Tried) → above s b ≡ false → keeps s b ≡ true → t ≡ cutWith gate k true (preparedOn k (s .chain .center) s) → t ≡ attempt gate k s
-  unfolding attempt
-  attempt-kept t a e g = rw (rw eb at a, rw eb at e) g
+  module _ (c : Cut) (store : List Float) (within : above s b ≡ false) where
+    pub attempt-centered : keeps s b ≡ true → (let p = preparedOn k (s .chain .center) s in Leaves c store (reasonIn gate k (p .state)) (cutWith gate k true p)) → Leaves c store (attemptReason gate k s) (attempt gate k s)
+    unfolding attempt
+    attempt-centered e g = rw (rw eb at within, rw eb at e) g
 
-  pub attempt-bare : (t : Tried) → above s b ≡ false → keeps s b ≡ false → t ≡ cutWith gate k false (prepared Right s) → t ≡ attempt gate k s
-  unfolding attempt
-  attempt-bare t a e g = rw (rw eb at a, rw eb at e) g
+    pub attempt-bare : keeps s b ≡ false → Leaves c store (reasonIn gate k s) (cutWith gate k false (prepared Right s)) → Leaves c store (attemptReason gate k s) (attempt gate k s)
+    unfolding attempt
+    attempt-bare e g = rw (rw eb at within, rw eb at e) g
 
 -- ---- made again at most once
 
-abbrev pub ranOf : Tried → Ran
-ranOf t = ran (t .refused) (t .state)
+module _ (gate : List (List Complex)) (k : ℕ) (s : State) (c : Cut) (store : List Float) (l : Leaves c store (attemptReason gate k s) (attempt gate k s)) where
+  pub adjacent-once : c .again ≡ false → answered (c .answer) (held (c .chain) store) ≡ answeredBy (adjacentReason gate k s) (adjacent gate k s)
+  unfolding adjacent adjacentReason
+  adjacent-once z = rw (sym (l .again) ∙ z) (l .answers)
 
-module _ (gate : List (List Complex)) (k : ℕ) (s : State) (t : Tried) (e : t ≡ attempt gate k s) where
-  pub adjacent-once : t .again ≡ false → ranOf t ≡ adjacent gate k s
-  unfolding adjacent
-  adjacent-once z = rw (← e, z)
-
-  pub adjacent-twice : (u : Ran) → t .again ≡ true → u ≡ ranOf (attempt gate k (established k (t .state))) → u ≡ adjacent gate k s
-  unfolding adjacent
-  adjacent-twice u z f = rw (← e, z) f
+  pub adjacent-twice : (x : Answered) → c .again ≡ true → x ≡ attemptBy gate k (established k (held (c .chain) store)) → x ≡ answeredBy (adjacentReason gate k s) (adjacent gate k s)
+  unfolding adjacent adjacentReason
+  adjacent-twice x z f = rw (sym (l .again) ∙ z) (f ∙ ap (λ (y : Answered). attemptBy gate k (established k (y .state))) (l .answers))

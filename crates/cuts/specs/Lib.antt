@@ -1,3 +1,4 @@
--- What a cut needs of a pair and leaves of the record; an attempt and a cut by their branches.
+-- What a cut needs of a pair and leaves of the record; what it answers; an attempt and a cut by their branches.
 pub mod Pair
+pub mod Answered
 pub mod Attempts

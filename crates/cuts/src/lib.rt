@@ -7,8 +7,10 @@ use cutting::decompose;
 use cutting::kept_values;
 use cutting::store_left;
 use cutting::store_right;
+use model::Applied;
 use model::Center;
 use model::Chain;
+use model::Gated;
 use model::WeightSide;
 use moves::establish_center;
 use moves::prepare_center;
@@ -23,14 +25,13 @@ ghost use Rattle.model.specs.Truncation.{recorded, cutRank, workspace};
 ghost use Rattle.model.specs.Pair.{pairSvd, leftSite, rightSite};
 ghost use Rattle.model.specs.Moves.{prepared, preparedOn, established};
 ghost use Rattle.model.specs.declared.Center.the-variants.{At};
-ghost use Rattle.model.specs.Cut.{known, canLose, tried, weightSite, cutWith, attempt, ran, adjacent};
-ghost use Rattle.model.specs.Statements.Pinned.{keepsCentre};
+ghost use Rattle.model.specs.Cut.{known, canLose, keepsCentre, reasonIn, weightSite, cutWith, attempt, adjacent, attemptReason, adjacentReason};
 ghost use Rattle.truncation.specs.Shares.{sharesOf};
 ghost use Rattle.cutting.specs.Shape.{shapeOf, standing, Stands, Made};
 ghost use Rattle.moves.specs.Ready.{Ready};
 ghost use Rattle.moves.specs.Steps.{Pair};
 ghost use Rattle.cuts.specs.Pair.{bondsAt, pairBonds, Bytes, SlotsOf, recordedCut};
-ghost use Rattle.cuts.specs.Attempts.{ranOf};
+ghost use Rattle.cuts.specs.Answered.{answered, answeredBy, attemptBy, Leaves};
 
 // A byte as a machine word.
 pub fn wide(x: u8) -> usize
@@ -216,9 +217,9 @@ fn record_cut(chain: Chain, k: usize, chi: usize, share: Share, weight: Weight) 
     out
 }
 
-// What an attempt leaves: the number that refused it, 0 for none; whether it is to be made again with a centre; the chain.
+// What an attempt leaves: its answer; whether it is to be made again with a centre, and stored nothing; the chain.
 struct Cut {
-    pub refused: u8,
+    pub answer: Applied,
     pub again: bool,
     pub chain: Chain,
 }
@@ -235,21 +236,22 @@ fn cut_pair(
 ) -> Cut
     requires { ⌜ Ready chain (now store) (now work) ⌝ }
     requires { ⌜ (k + 1 < chain .«num_qubits») × (bonds ≡ pairBonds chain k) ⌝ }
-    ensures { λ r. ⌜ tried (r .refused) (r .again) (held (r .chain) (now (store .exit))) ≡ cutWith gate k (weight .maintained) (prepared (weight .side) (held chain (now (store .entry)))) ⌝ }
+    ensures { λ r. ⌜ Leaves r (now (store .exit)) (reasonIn gate k (held chain (now (store .entry)))) (cutWith gate k (weight .maintained) (prepared (weight .side) (held chain (now (store .entry))))) ⌝ }
 {
     let d = chain.max_bond_dim;
     let f = decompose_pair(store, work, gate, d, k, bonds, chain.norm_clamp_min);
     if f.nan {
         return Cut {
-            refused: 7,
+            answer: Applied::Refused(7),
             again: false,
             chain,
         };
     }
     let kept = kept_values(work, f, chain.svd_epsilon, d);
+    let reason = kept.reason;
     if !weight.maintained & kept.resolvable {
         return Cut {
-            refused: 0,
+            answer: Applied::Done(reason),
             again: true,
             chain,
         };
@@ -263,7 +265,7 @@ fn cut_pair(
     store_pair(store, work, f, side, d, k, after);
     let share = kept.share;
     Cut {
-        refused: 0,
+        answer: Applied::Done(reason),
         again: false,
         chain: record_cut(chain, k, kept.chi, share, weight),
     }
@@ -279,7 +281,7 @@ fn cut_centered(
 ) -> Cut
     requires { ⌜ Ready chain (now store) (now work) ⌝ }
     requires { ⌜ (k + 1 < chain .«num_qubits») × (keepsCentre k (held chain (now store)) ≡ true) ⌝ }
-    ensures { λ r. ⌜ tried (r .refused) (r .again) (held (r .chain) (now (store .exit))) ≡ cutWith gate k true (preparedOn k (chain .center) (held chain (now (store .entry)))) ⌝ }
+    ensures { λ r. ⌜ (let p = preparedOn k (chain .center) (held chain (now (store .entry))) in Leaves r (now (store .exit)) (reasonIn gate k (p .state)) (cutWith gate k true p)) ⌝ }
 {
     let p = prepare_center(chain, store, work, k);
     let ready = p.chain;
@@ -302,12 +304,12 @@ fn cut_adjacent_pair(
 ) -> Cut
     requires { ⌜ Ready chain (now store) (now work) ⌝ }
     requires { ⌜ k + 1 < chain .«num_qubits» ⌝ }
-    ensures { λ r. ⌜ tried (r .refused) (r .again) (held (r .chain) (now (store .exit))) ≡ attempt gate k (held chain (now (store .entry))) ⌝ }
+    ensures { λ r. ⌜ (let s = held chain (now (store .entry)) in Leaves r (now (store .exit)) (attemptReason gate k s) (attempt gate k s)) ⌝ }
 {
     let bonds = pair_bonds(&chain.bond_left, &chain.bond_right, k);
     if workspace_exceeded(chain.workspace_exponent, bonds) {
         return Cut {
-            refused: 6,
+            answer: Applied::Refused(6),
             again: false,
             chain,
         };
@@ -325,21 +327,13 @@ fn cut_adjacent_pair(
 
 // ---- a cut, made again at most once
 
-// What a run of cuts leaves: the number that refused one, 0 for none, and the chain.
-pub struct Run {
-    pub refused: u8,
-    pub chain: Chain,
-}
-
-// The run of an attempt that is not made again.
-fn run_of(cut: Cut) -> Run
-    ensures { λ r. ⌜ (r .refused ≡ cut .refused) × (r .chain ≡ cut .chain) ⌝ }
+// What an attempt that is not made again leaves.
+fn gated(cut: Cut) -> Gated
+    ensures { λ r. ⌜ (r .answer ≡ cut .answer) × (r .chain ≡ cut .chain) ⌝ }
 {
+    let answer = cut.answer;
     let chain = cut.chain;
-    Run {
-        refused: cut.refused,
-        chain,
-    }
+    Gated { answer, chain }
 }
 
 // The second attempt, after a centre is established.
@@ -349,14 +343,14 @@ fn cut_again(
     work: &mut [f64],
     gate: [[Complex; 4]; 4],
     k: usize,
-) -> Run
+) -> Gated
     requires { ⌜ Ready chain (now store) (now work) ⌝ }
     requires { ⌜ k + 1 < chain .«num_qubits» ⌝ }
-    ensures { λ r. ⌜ ran (r .refused) (held (r .chain) (now (store .exit))) ≡ ranOf (attempt gate k (established k (held chain (now (store .entry))))) ⌝ }
+    ensures { λ r. ⌜ answered (r .answer) (held (r .chain) (now (store .exit))) ≡ attemptBy gate k (established k (held chain (now (store .entry)))) ⌝ }
 {
     let out = establish_center(chain, store, work, k);
     let second = cut_adjacent_pair(out, store, work, gate, k);
-    run_of(second)
+    gated(second)
 }
 
 // A gate on the sites k and k + 1: the cut, and where weight would be lost without a centre, the cut again with one.
@@ -366,16 +360,16 @@ pub fn apply_adjacent_two_qubit(
     work: &mut [f64],
     gate: [[Complex; 4]; 4],
     k: usize,
-) -> Run
+) -> Gated
     requires { ⌜ Ready chain (now store) (now work) ⌝ }
     requires { ⌜ k + 1 < chain .«num_qubits» ⌝ }
-    ensures { λ r. ⌜ ran (r .refused) (held (r .chain) (now (store .exit))) ≡ adjacent gate k (held chain (now (store .entry))) ⌝ }
+    ensures { λ r. ⌜ (let s = held chain (now (store .entry)) in answered (r .answer) (held (r .chain) (now (store .exit))) ≡ answeredBy (adjacentReason gate k s) (adjacent gate k s)) ⌝ }
 {
     let first = cut_adjacent_pair(chain, store, work, gate, k);
     if first.again {
         let found = first.chain;
         cut_again(found, store, work, gate, k)
     } else {
-        run_of(first)
+        gated(first)
     }
 }

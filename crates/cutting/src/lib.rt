@@ -5,6 +5,7 @@ use fills::fill_isometry_site_data;
 use fills::fill_scaled_u_site_data;
 use fills::fill_scaled_vt_data;
 use fills::fill_vt_site_data;
+use model::Reason;
 use model::WeightSide;
 use pair::Bonds;
 use pair::contract;
@@ -115,9 +116,10 @@ pub fn decompose(
 
 // ---- what is kept
 
-// How many values, whether one above the resolution is dropped, and the share of the weight that is.
+// How many values, why so many, whether one above the resolution is dropped, and the share of the weight that is.
 pub struct Kept {
     pub chi: usize,
+    pub reason: Reason,
     pub resolvable: bool,
     pub share: Share,
 }
@@ -126,10 +128,13 @@ pub struct Kept {
 fn keep(s: &[f64], epsilon: f64, max_bond_dim: usize) -> Kept
     ensures { λ r. ⌜ KeptOf epsilon «max_bond_dim» (now (s .entry)) r ⌝ }
 {
-    let chi = truncated_svd_rank(s, epsilon, max_bond_dim);
+    let ranked = truncated_svd_rank(s, epsilon, max_bond_dim);
+    let chi = ranked.chi;
+    let reason = ranked.reason;
     let share = discarded_share(s, chi);
     Kept {
         chi,
+        reason,
         resolvable: discards_resolvable_weight(s, chi),
         share,
     }

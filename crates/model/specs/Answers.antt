@@ -1,9 +1,11 @@
 -- What each answer says, in document 01's terms: its refusal number, 0 where the call is accepted, and its value.
 use Prim.Native.Nat.{ℕ}
 use mathlib.Core.Bool.{Bool, cond}
+use mathlib.Core.List.{List, [], _∷_}
 use lib.Ieee.{Float, binary64, toBits}
 use Rattle.model.specs.declared.Answer.{Answer}
 use Rattle.model.specs.declared.Answer.the-variants as answer
+use Rattle.model.specs.declared.Reason.{Reason}
 use Rattle.model.specs.declared.Applied.{Applied}
 use Rattle.model.specs.declared.Applied.the-variants as applied
 use Rattle.model.specs.declared.Projected.{Projected}
@@ -45,7 +47,7 @@ viewAnswer answer.Done = accepted none
 viewAnswer (answer.Refused k) = refused k
 
 abbrev pub viewApplied : Applied → View
-viewApplied applied.Done = accepted none
+viewApplied (applied.Done r) = accepted none
 viewApplied (applied.Refused k) = refused k
 
 abbrev pub viewProjected : Projected → View
@@ -60,3 +62,12 @@ viewMeasured (measured.Refused k) = refused k
 abbrev pub viewContracted : Contracted → View
 viewContracted (contracted.Dim n) = accepted (dimension n)
 viewContracted (contracted.Refused k) = refused k
+
+-- a gate's answer with its reason, which the view leaves out: none where the call is refused (document 02, W3)
+pub record Told : Type 0 where
+  pub number : ℕ
+  pub reason : List Reason
+
+abbrev pub toldApplied : Applied → Told
+toldApplied (applied.Done r) = record { number = 0; reason = r ∷ [] }
+toldApplied (applied.Refused k) = record { number = k; reason = [] }

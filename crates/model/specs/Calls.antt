@@ -13,6 +13,7 @@ use Rattle.gates.specs.declared.NamedGate.{NamedGate}
 use Rattle.model.specs.declared.Chain.{Chain}
 use Rattle.model.specs.declared.Answer.{Answer}
 use Rattle.model.specs.declared.Answer.the-variants as answer
+use Rattle.model.specs.declared.Reason.{Reason}
 use Rattle.model.specs.declared.Applied.{Applied}
 use Rattle.model.specs.declared.Applied.the-variants as applied
 use Rattle.model.specs.declared.Projected.{Projected}
@@ -24,7 +25,7 @@ use Rattle.model.specs.declared.Contracted.the-variants as contracted
 use Rattle.model.specs.Chain.{siteOf, withBits}
 use Rattle.model.specs.Slots.{State, held, storeRoom, workRoom}
 use Rattle.model.specs.Cut.{Ran}
-use Rattle.model.specs.Routing.{gateRun}
+use Rattle.model.specs.Routing.{gateRun, gateReason}
 use Rattle.model.specs.Born.{weightAt, totalAt, drawnAt, projectedAt, resetAt, readied}
 use Rattle.model.specs.Environment.{Env, leftEnv, rightEnv}
 use Rattle.model.specs.Sound.{share01, settingsFit, sound}
@@ -80,17 +81,18 @@ abbrev pub gateRefusal : State → List Float → ℕ → ℕ → List (List Com
 gateRefusal s work q0 q1 gate =
     firstOf (not (sound (s .chain))) (short (s .chain) (s .store) work) (outside (s .chain) q0 || outside (s .chain) q1 || eqb q0 q1) (not (allFinite gate))
 
-abbrev pub appliedOf : ℕ → Applied
-appliedOf zero = applied.Done
-appliedOf (suc k) = applied.Refused (suc k)
+-- the reason where nothing refused the run, else its number
+abbrev pub appliedOf : Reason → ℕ → Applied
+appliedOf reason zero = applied.Done reason
+appliedOf reason (suc k) = applied.Refused (suc k)
 
-abbrev pub gateAfter : Ran → List Float → After Applied
-gateAfter r work = after (appliedOf (r .refused)) (r .state) work
+abbrev pub gateAfter : Reason → Ran → List Float → After Applied
+gateAfter reason r work = after (appliedOf reason (r .refused)) (r .state) work
 
 unfoldable pub gateCall : State → List Float → ℕ → ℕ → List (List Complex) → After Applied
 gateCall s work q0 q1 gate =
     let k = gateRefusal s work q0 q1 gate in
-    cond (eqb k 0) (gateAfter (gateRun gate q0 q1 s) (cleared (s .chain) work)) (after (applied.Refused k) s work)
+    cond (eqb k 0) (gateAfter (gateReason gate q0 q1 s) (gateRun gate q0 q1 s) (cleared (s .chain) work)) (after (applied.Refused k) s work)
 
 unfoldable pub namedGateCall : State → List Float → ℕ → ℕ → NamedGate → After Applied
 namedGateCall s work q0 q1 name = gateCall s work q0 q1 (matrixOf name)

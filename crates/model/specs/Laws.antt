@@ -23,6 +23,7 @@ pub mod OrderLaws
 pub mod PinnedProof
 pub mod Promises
 pub mod QrLaws
+pub mod Reasons
 pub mod Refusals
 pub mod RootsOfSquares
 pub mod RouteLabels

@@ -10,9 +10,10 @@ use Rattle.gates.specs.Gate.{swapGateQubits}
 use Rattle.gates.specs.Named.{matrixOf}
 use Rattle.gates.specs.declared.NamedGate.the-variants.{Swap}
 use Rattle.model.specs.declared.Chain.{Chain}
+use Rattle.model.specs.declared.Reason.{Reason}
 use Rattle.model.specs.Chain.{siteOf, qubitAt, withLabels}
 use Rattle.model.specs.Slots.{State, held}
-use Rattle.model.specs.Cut.{Ran, ran, adjacent}
+use Rattle.model.specs.Cut.{Ran, ran, adjacent, adjacentReason}
 
 -- ---- labels
 
@@ -52,8 +53,12 @@ swapStep k = record { gate = matrixOf Swap; site = k; relabels = true }
 abbrev pub gateStep : List (List Complex) → ℕ → Step
 gateStep gate k = record { gate = gate; site = k; relabels = false }
 
+-- the gate in the order of its qubits' sites
+abbrev pub turned : List (List Complex) → Route → List (List Complex)
+turned gate r = cond (r .first) gate (swapGateQubits gate)
+
 abbrev pub stepsOf : List (List Complex) → Route → List Step
-stepsOf gate r = map swapStep (r .swaps) ++ (gateStep (cond (r .first) gate (swapGateQubits gate)) (r .near) ∷ [])
+stepsOf gate r = map swapStep (r .swaps) ++ (gateStep (turned gate r) (r .near) ∷ [])
 
 -- what follows a run, unless that was refused
 abbrev pub follow : Ran → (State → Ran) → Ran
@@ -70,3 +75,9 @@ runSteps (x ∷ xs) s = follow (stepped x s) (runSteps xs)
 -- a gate on the qubits q0 and q1
 unfoldable pub gateRun : List (List Complex) → ℕ → ℕ → State → Ran
 gateRun gate q0 q1 s = runSteps (stepsOf gate (routeOf (siteOf (s .chain) q0) (siteOf (s .chain) q1))) s
+
+-- why its last cut, the gate's own, keeps as many values as it does, in the state that the swaps leave (document 02, W3)
+unfoldable pub gateReason : List (List Complex) → ℕ → ℕ → State → Reason
+gateReason gate q0 q1 s =
+    let r = routeOf (siteOf (s .chain) q0) (siteOf (s .chain) q1) in
+    adjacentReason (turned gate r) (r .near) (runSteps (map swapStep (r .swaps)) s .state)

@@ -1,4 +1,4 @@
--- What a cut keeps of its singular values s, and what it records (truncated_svd_rank, discards_resolvable_weight, record_truncation, cut_rank).
+-- What a cut keeps of its singular values s, why, and what it records (truncated_svd_rank, discards_resolvable_weight, record_truncation, cut_rank).
 use Prim.Native.Nat.{ℕ, suc, _+_, _-_, _*_, min, max}
 use mathlib.Core.Bool.{Bool, cond, _&&_, _||_}
 use mathlib.Core.List.{List, [], _∷_}
@@ -7,15 +7,28 @@ use lib.Ieee.{Float, nan, binary64, add, mul, div, lt, le, ofBits}
 use lib.ListN.{getD, length}
 use Rattle.complex.specs.Complex.{zeroF}
 use Rattle.complex.specs.Loops.{sumF}
+use Rattle.model.specs.declared.Reason.{Reason}
+use Rattle.model.specs.declared.Reason.the-variants.{Floor, Cap, Tolerance, Full}
 
 -- how many lead that are above b
 abbrev pub leading : Float → List Float → ℕ
 leading b [] = 0
 leading b (x ∷ xs) = cond (lt b x) (suc (leading b xs)) 0
 
--- those above epsilon times the first, raised to 1, lowered to the cap
+-- how many lead that are above epsilon times the first
+abbrev pub aboveThreshold : Float → List Float → ℕ
+aboveThreshold epsilon s = leading (mul binary64 epsilon (getD s 0 zeroF)) s
+
+-- those, raised to 1, lowered to the cap
 unfoldable pub rank : Float → ℕ → List Float → ℕ
-rank epsilon cap s = min (max (leading (mul binary64 epsilon (getD s 0 zeroF)) s) 1) cap
+rank epsilon cap s = min (max (aboveThreshold epsilon s) 1) cap
+
+-- why, where n of so many values lead: raised to 1, else lowered, else below their number, else none of these (document 02, W3)
+abbrev pub reasonBy : ℕ → ℕ → ℕ → Reason
+reasonBy n cap many = cond (ltb n 1) Floor (cond (ltb cap n) Cap (cond (ltb n many) Tolerance Full))
+
+unfoldable pub rankReason : Float → ℕ → List Float → Reason
+rankReason epsilon cap s = reasonBy (aboveThreshold epsilon s) cap (length s)
 
 -- 4 * 2^-52 (SVD_RESOLUTION)
 abbrev pub resolution : Float

@@ -37,9 +37,18 @@ pub enum Answer {
     Refused(u8),
 }
 
-// What a gate answers.
+// Why a cut keeps as many singular values as it does: raised to 1; lowered to the cap; those above the tolerance, and
+// not all; all.
+pub enum Reason {
+    Floor,
+    Cap,
+    Tolerance,
+    Full,
+}
+
+// What a gate answers: the reason of its last cut.
 pub enum Applied {
-    Done,
+    Done(Reason),
     Refused(u8),
 }
 

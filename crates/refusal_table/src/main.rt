@@ -22,7 +22,7 @@ fn of_answer(a: Answer) -> u8 {
 
 fn of_applied(a: Applied) -> u8 {
     match a {
-        Applied::Done => 0,
+        Applied::Done(_) => 0,
         Applied::Refused(k) => k,
     }
 }

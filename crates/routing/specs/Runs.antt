@@ -10,10 +10,14 @@ use Rattle.complex.specs.declared.Complex.{Complex}
 use Rattle.gates.specs.Gate.{swapGateQubits}
 use Rattle.gates.specs.Named.{matrixOf}
 use Rattle.gates.specs.declared.NamedGate.the-variants.{Swap}
+use Rattle.model.specs.declared.Applied.{Applied}
+use Rattle.model.specs.declared.Applied.the-variants as applied
+use Rattle.model.specs.declared.Reason.{Reason}
 use Rattle.model.specs.Chain.{siteOf}
 use Rattle.model.specs.Slots.{State, held}
-use Rattle.model.specs.Cut.{Ran, ran, adjacent}
-use Rattle.model.specs.Routing.{Step, relabelled, downTo, swapStep, gateStep, follow, stepped, runSteps, gateRun}
+use Rattle.model.specs.Cut.{Ran, ran, adjacent, adjacentReason}
+use Rattle.model.specs.Routing.{Step, relabelled, downTo, swapStep, gateStep, follow, stepped, runSteps, gateRun, gateReason}
+use Rattle.cuts.specs.Answered.{Answered, answered, answeredBy, applied-refused, ran-refused, ran-done}
 
 -- the swaps at near + n, .., near + 1
 unfoldable pub swapsDown : ℕ → ℕ → State → Ran
@@ -22,6 +26,10 @@ swapsDown near n s = runSteps (map swapStep (downTo near n)) s
 -- and then the gate at near
 unfoldable pub routedGate : List (List Complex) → ℕ → ℕ → State → Ran
 routedGate gate near n s = runSteps (map swapStep (downTo near n) ++ (gateStep gate near ∷ [])) s
+
+-- why its cut keeps as many values as it does
+unfoldable pub routedReason : List (List Complex) → ℕ → ℕ → State → Reason
+routedReason gate near n s = adjacentReason gate near (swapsDown near n s .state)
 
 -- ---- what follows a run
 
@@ -48,14 +56,20 @@ follow-then r f g = pick (eqb (r .refused) 0) refl
 
 -- ---- one swap: the cut, then the labels
 
-module _ (k : ℕ) (s : State) (r : Ran) (e : r ≡ adjacent (matrixOf Swap) k s) where
-  pub step-out : (r .refused ≡ 0 → ⊥) → r ≡ stepped (swapStep k) s
-  unfolding stepped
-  step-out z = sym (ap (λ (t : Ran). follow t (λ u. ran 0 (held (relabelled k (u .chain)) (u .store)))) (sym e) ∙ follow-out r (λ u. ran 0 (held (relabelled k (u .chain)) (u .store))) z)
+module _ (k : ℕ) (s : State) (a : Applied) (t : State) (reason : Reason) (e : answered a t ≡ answeredBy reason (adjacent (matrixOf Swap) k s)) where
+  -- what follows the cut
+  abbrev labelled : State → Ran
+  labelled u = ran 0 (held (relabelled k (u .chain)) (u .store))
 
-  pub step-on : r .refused ≡ 0 → ran 0 (held (relabelled k (r .state .chain)) (r .state .store)) ≡ stepped (swapStep k) s
+  pub step-out : (n : ℕ) → a ≡ applied.Refused n → ran n t ≡ stepped (swapStep k) s
   unfolding stepped
-  step-on z = sym (ap (λ (t : Ran). follow t (λ u. ran 0 (held (relabelled k (u .chain)) (u .store)))) (sym e) ∙ follow-on r (λ u. ran 0 (held (relabelled k (u .chain)) (u .store))) z)
+  step-out n f =
+      let x = ran-refused reason (adjacent (matrixOf Swap) k s) n t (ap (λ (b : Applied). answered b t) (sym f) ∙ e) in
+      sym (ap (λ (r : Ran). follow r labelled) (sym (x .0)) ∙ follow-out (ran n t) labelled (x .1))
+
+  pub step-on : (r : Reason) → a ≡ applied.Done r → labelled t ≡ stepped (swapStep k) s
+  unfolding stepped
+  step-on r f = ap (λ (x : Ran). follow x labelled) (ran-done reason (adjacent (matrixOf Swap) k s) r t (ap (λ (b : Applied). answered b t) (sym f) ∙ e))
 
 -- ---- the swaps
 
@@ -91,14 +105,25 @@ unfolding runSteps stepped
 run-gate gate k s = follow-none (follow (adjacent gate k s) (λ t. ran 0 t)) ∙ follow-none (adjacent gate k s)
 
 module _ (gate : List (List Complex)) (near n : ℕ) (s : State) where
-  pub gate-out : (x : Ran) → x ≡ swapsDown near n s → (x .refused ≡ 0 → ⊥) → x ≡ routedGate gate near n s
+  run-out : (x : Ran) → x ≡ swapsDown near n s → (x .refused ≡ 0 → ⊥) → x ≡ routedGate gate near n s
   unfolding swapsDown routedGate
-  gate-out x e z = sym (run-then (map swapStep (downTo near n)) (gateStep gate near ∷ []) s ∙ ap (λ (r : Ran). follow r (runSteps (gateStep gate near ∷ []))) (sym e) ∙ follow-out x (runSteps (gateStep gate near ∷ [])) z)
+  run-out x e z = sym (run-then (map swapStep (downTo near n)) (gateStep gate near ∷ []) s ∙ ap (λ (r : Ran). follow r (runSteps (gateStep gate near ∷ []))) (sym e) ∙ follow-out x (runSteps (gateStep gate near ∷ [])) z)
 
-  pub gate-on : (x y : Ran) → x ≡ swapsDown near n s → x .refused ≡ 0 → y ≡ adjacent gate near (x .state) → y ≡ routedGate gate near n s
+  run-in : (x : Ran) → x ≡ swapsDown near n s → x .refused ≡ 0 → adjacent gate near (x .state) ≡ routedGate gate near n s
   unfolding swapsDown routedGate
-  gate-on x y e z f =
-      f ∙ sym (run-then (map swapStep (downTo near n)) (gateStep gate near ∷ []) s ∙ ap (λ (r : Ran). follow r (runSteps (gateStep gate near ∷ []))) (sym e) ∙ follow-on x (runSteps (gateStep gate near ∷ [])) z ∙ run-gate gate near (x .state))
+  run-in x e z =
+      sym (run-then (map swapStep (downTo near n)) (gateStep gate near ∷ []) s ∙ ap (λ (r : Ran). follow r (runSteps (gateStep gate near ∷ []))) (sym e) ∙ follow-on x (runSteps (gateStep gate near ∷ [])) z ∙ run-gate gate near (x .state))
+
+  abbrev routedBy : Answered
+  routedBy = answeredBy (routedReason gate near n s) (routedGate gate near n s)
+
+  pub gate-out : (x : Ran) → x ≡ swapsDown near n s → (x .refused ≡ 0 → ⊥) → answered (applied.Refused (x .refused)) (x .state) ≡ routedBy
+  gate-out x e z =
+      ap (λ (a : Applied). answered a (x .state)) (applied-refused (routedReason gate near n s) (x .refused) z) ∙ ap (answeredBy (routedReason gate near n s)) (run-out x e z)
+
+  pub gate-on : (x : Ran) (y : Answered) → x ≡ swapsDown near n s → x .refused ≡ 0 → y ≡ answeredBy (adjacentReason gate near (x .state)) (adjacent gate near (x .state)) → y ≡ routedBy
+  unfolding routedReason
+  gate-on x y e z f = f ∙ (λ i. answeredBy (adjacentReason gate near (e i .state)) (run-in x e z i))
 
 -- ---- from the qubits' sites
 
@@ -107,5 +132,12 @@ module _ (gate : List (List Complex)) (q0 q1 : ℕ) (s : State) (p q : ℕ) (e :
   unfolding gateRun routedGate
   run-routed near m g eg en em = rw (eg, en, em, e, f)
 
-  pub run-between : (near far : ℕ) (g : List (List Complex)) → g ≡ cond (ltb p q) gate (swapGateQubits gate) → near ≡ min p q → far ≡ max p q → routedGate g near (far - (near + 1)) s ≡ gateRun gate q0 q1 s
-  run-between near far g eg en ef = run-routed near (far - (near + 1)) g eg en (omega arith)
+  reason-routed : (near m : ℕ) (g : List (List Complex)) → g ≡ cond (ltb p q) gate (swapGateQubits gate) → near ≡ min p q → m ≡ max p q - min p q - 1 → routedReason g near m s ≡ gateReason gate q0 q1 s
+  unfolding gateReason routedReason swapsDown
+  reason-routed near m g eg en em = rw (eg, en, em, e, f)
+
+  pub run-between : (near far : ℕ) (g : List (List Complex)) → g ≡ cond (ltb p q) gate (swapGateQubits gate) → near ≡ min p q → far ≡ max p q
+      → routedBy g near (far - (near + 1)) s ≡ answeredBy (gateReason gate q0 q1 s) (gateRun gate q0 q1 s)
+  run-between near far g eg en ef =
+      let em : far - (near + 1) ≡ max p q - min p q - 1 = omega arith in
+      λ i. answeredBy (reason-routed near (far - (near + 1)) g eg en em i) (run-routed near (far - (near + 1)) g eg en em i)

@@ -2,13 +2,14 @@
 use columns::larger;
 use columns::smaller;
 use complex::Complex;
-use cuts::Run;
 use cuts::apply_adjacent_two_qubit;
 use cuts::wide;
 use gates::NamedGate;
 use gates::matrix_4x4;
 use gates::swap_gate_qubits;
+use model::Applied;
 use model::Chain;
+use model::Gated;
 ghost use mathlib.Core.Path.{_≡_};
 ghost use mathlib.Core.Logic.{_≢_};
 ghost use mathlib.Core.Bool.{cond};
@@ -18,10 +19,11 @@ ghost use Rattle.gates.specs.Gate.{swapGateQubits};
 ghost use Rattle.model.specs.Chain.{siteOf};
 ghost use Rattle.model.specs.Slots.{held};
 ghost use Rattle.model.specs.Cut.{ran};
-ghost use Rattle.model.specs.Routing.{relabelled, swapStep, stepped, gateRun};
+ghost use Rattle.model.specs.Routing.{relabelled, swapStep, stepped, gateRun, gateReason};
 ghost use Rattle.model.specs.Statements.Soundness.{Sound};
 ghost use Rattle.moves.specs.Ready.{Ready};
-ghost use Rattle.routing.specs.Runs.{swapsDown, routedGate};
+ghost use Rattle.cuts.specs.Answered.{answered, answeredBy};
+ghost use Rattle.routing.specs.Runs.{swapsDown, routedGate, routedReason};
 
 // ---- swaps
 
@@ -41,6 +43,12 @@ fn swap_layout_labels(chain: Chain, left_site: usize) -> Chain
     out
 }
 
+// What swaps leave: the number that refused one, 0 for none, and the chain.
+struct Run {
+    pub refused: u8,
+    pub chain: Chain,
+}
+
 // One swap of the route: the cut, then the labels.
 fn swap_step(chain: Chain, store: &mut [f64], work: &mut [f64], k: usize) -> Run
     requires { ⌜ Ready chain (now store) (now work) ⌝ }
@@ -49,13 +57,17 @@ fn swap_step(chain: Chain, store: &mut [f64], work: &mut [f64], k: usize) -> Run
 {
     let gate = matrix_4x4(NamedGate::Swap);
     let step = apply_adjacent_two_qubit(chain, store, work, gate, k);
-    if step.refused != 0 {
-        return step;
-    }
+    let answer = step.answer;
     let out = step.chain;
-    Run {
-        refused: 0,
-        chain: swap_layout_labels(out, k),
+    match answer {
+        Applied::Refused(number) => Run {
+            refused: number,
+            chain: out,
+        },
+        Applied::Done(_) => Run {
+            refused: 0,
+            chain: swap_layout_labels(out, k),
+        },
     }
 }
 
@@ -90,16 +102,19 @@ fn route_gate(
     gate: [[Complex; 4]; 4],
     near: usize,
     far: usize,
-) -> Run
+) -> Gated
     requires { ⌜ Ready chain (now store) (now work) ⌝ }
     requires { ⌜ (near < far) × (far < chain .«num_qubits») ⌝ }
-    ensures { λ r. ⌜ ran (r .refused) (held (r .chain) (now (store .exit))) ≡ routedGate gate near (far - (near + 1)) (held chain (now (store .entry))) ⌝ }
+    ensures { λ r. ⌜ (let s = held chain (now (store .entry)) in answered (r .answer) (held (r .chain) (now (store .exit))) ≡ answeredBy (routedReason gate near (far - (near + 1)) s) (routedGate gate near (far - (near + 1)) s)) ⌝ }
 {
     let step = route_swaps(chain, store, work, near, far);
-    if step.refused != 0 {
-        return step;
-    }
     let out = step.chain;
+    if step.refused != 0 {
+        return Gated {
+            answer: Applied::Refused(step.refused),
+            chain: out,
+        };
+    }
     apply_adjacent_two_qubit(out, store, work, gate, near)
 }
 
@@ -128,10 +143,10 @@ pub fn apply_two_qubit_gate(
     gate: [[Complex; 4]; 4],
     q0: usize,
     q1: usize,
-) -> Run
+) -> Gated
     requires { ⌜ Ready chain (now store) (now work) ⌝ }
     requires { ⌜ (q0 < chain .«num_qubits») × (q1 < chain .«num_qubits») × (q0 ≢ q1) ⌝ }
-    ensures { λ r. ⌜ ran (r .refused) (held (r .chain) (now (store .exit))) ≡ gateRun gate q0 q1 (held chain (now (store .entry))) ⌝ }
+    ensures { λ r. ⌜ (let s = held chain (now (store .entry)) in answered (r .answer) (held (r .chain) (now (store .exit))) ≡ answeredBy (gateReason gate q0 q1 s) (gateRun gate q0 q1 s)) ⌝ }
 {
     let p = site_of(chain, q0);
     let q = site_of(chain, q1);

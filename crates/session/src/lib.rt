@@ -71,7 +71,7 @@ fn applied_line(kind: u8, answer: Applied) -> Line
     ensures { λ r. ⌜ r ≡ lineOf kind (viewApplied answer) ⌝ }
 {
     match answer {
-        Applied::Done => Line {
+        Applied::Done(_) => Line {
             kind: kind,
             number: 0,
             detail: Detail::Empty,

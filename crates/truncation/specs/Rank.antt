@@ -11,6 +11,7 @@ use lib.ListN.{length, getD, drop}
 use lib.Seq.{drop-cons}
 use Rattle.complex.specs.Complex.{zeroF}
 use Rattle.model.specs.Truncation.{leading, rank}
+use Rattle.model.specs.Laws.Reasons.{leading-within}
 
 -- ---- from place k on: the value there leads or not, or there is none
 
@@ -28,14 +29,6 @@ leading-none b (x ∷ s) zero h = absurd (not-suc-le-zero h)
 leading-none b (x ∷ s) (suc k) h = leading-none b s k (omega arith)
 
 -- ---- a rank is at most the number of values
-
-pub leading-within : (b : Float) (s : List Float) → leading b s ≤ length s
-leading-within b [] = omega arith
-leading-within b (x ∷ s) = counted (lt b x) (leading b s) (length s) (leading-within b s)
-  where
-    counted : (t : Bool) (n m : ℕ) → n ≤ m → cond t (suc n) 0 ≤ suc m
-    counted true n m h = omega arith
-    counted false n m h = omega arith
 
 pub rank-within : (epsilon : Float) (cap : ℕ) (s : List Float) → 0 < length s → rank epsilon cap s ≤ length s
 unfolding rank

@@ -1,11 +1,12 @@
-// What a cut keeps of its singular values, given in order, and the share of the weight that it drops.
+// What a cut keeps of its singular values, given in order, why so many, and the share of the weight that it drops.
 use columns::larger;
 use columns::smaller;
+use model::Reason;
 ghost use mathlib.Core.Path.{_≡_};
 ghost use Prim.Native.Nat.{_≤_};
 ghost use lib.ListN.{length, getD};
 ghost use Rattle.complex.specs.Complex.{zeroF};
-ghost use Rattle.model.specs.Truncation.{leading, rank, resolvable, squaresFrom, share};
+ghost use Rattle.model.specs.Truncation.{leading, rank, reasonBy, rankReason, resolvable, squaresFrom, share};
 ghost use Rattle.truncation.specs.Shares.{sharesOf};
 
 // 4 * 2^-52, the part of the largest value under which a dropped value counts as rounding.
@@ -34,13 +35,39 @@ fn count_leading(s: &[f64], threshold: f64) -> usize
     s.len()
 }
 
-// How many values are kept: those above epsilon times the first, at least 1, at most max_bond_dim.
-pub fn truncated_svd_rank(s: &[f64], epsilon: f64, max_bond_dim: usize) -> usize
-    ensures { λ r. ⌜ r ≡ rank epsilon «max_bond_dim» (now (s .entry)) ⌝ }
+// Why a rank is what it is, where `above` of so many values lead: raised to 1, else lowered, else below their number.
+fn rank_reason(above: usize, max_bond_dim: usize, values: usize) -> Reason
+    ensures { λ r. ⌜ r ≡ reasonBy above «max_bond_dim» values ⌝ }
+{
+    if above < 1 {
+        return Reason::Floor;
+    }
+    if max_bond_dim < above {
+        return Reason::Cap;
+    }
+    if above < values {
+        return Reason::Tolerance;
+    }
+    Reason::Full
+}
+
+// How many values are kept, and why so many.
+pub struct Ranked {
+    pub chi: usize,
+    pub reason: Reason,
+}
+
+// Those above epsilon times the first, at least 1, at most max_bond_dim.
+pub fn truncated_svd_rank(s: &[f64], epsilon: f64, max_bond_dim: usize) -> Ranked
+    ensures { λ r. ⌜ (r .chi ≡ rank epsilon «max_bond_dim» (now (s .entry))) × (r .reason ≡ rankReason epsilon «max_bond_dim» (now (s .entry))) ⌝ }
 {
     let threshold = epsilon * first(s);
     let above = count_leading(s, threshold);
-    smaller(larger(above, 1), max_bond_dim)
+    let reason = rank_reason(above, max_bond_dim, s.len());
+    Ranked {
+        chi: smaller(larger(above, 1), max_bond_dim),
+        reason,
+    }
 }
 
 // Whether keeping chi values drops one above the resolution times the first.

@@ -45,9 +45,6 @@ slice-aggregate-fill-zero c =
 fill-zero-requires : tie.Need-fill-zero-requires
 fill-zero-requires c κs = search needs
 
-applied-requires : tie.Need-applied-requires
-applied-requires c κs = search needs
-
 same-length : tie.Need-same-length
 same-length c = search needs
 
@@ -56,11 +53,11 @@ same-length-2 c = search needs
 
 returns : tie.Need-returns
 returns c =
-    let w = c .before .before .before .before .before .before .before .before .before .before .before .before .before in
-    let r = c .before .before .before .before .before .before .before .before .before .before .apply-two-qubit-gate in
-    let z = c .before .before .before .before .fill-zero in
+    let w = c .before .before .before .before .before .before .before .before .before .before .before in
+    let r = c .before .before .before .before .before .before .before .before .apply-two-qubit-gate in
+    let z = c .before .before .fill-zero in
     let left = part w .clear (r .last .1 .1 .0) (z .last .0) (r .kept .1 .1 .0) (z .ensures) in
-    gate-ends _ _ _ _ _ _ _ _ _ (w .before .before .before .pre) (c .applied .ensures) (r .ensures) left
+    gate-ends _ _ _ _ _ _ _ _ (w .before .before .before .pre) (r .ensures) left
 
 pub run-gate-spec : {M : Type 1} → statement M
 run-gate-spec =
@@ -73,7 +70,6 @@ run-gate-spec =
     slice-relend-prefix-fill-zero
     slice-aggregate-fill-zero
     fill-zero-requires
-    applied-requires
     same-length
     same-length-2
     returns)

@@ -1,7 +1,7 @@
 use mathlib.Core.Path.{sym, _∙_}
 use native.Mathlib.Omega.{arith}
 use Rattle.model.specs.Slots.{held}
-use Rattle.cuts.specs.Attempts.{keeps-centre, attempt-above, attempt-kept, attempt-bare}
+use Rattle.cuts.specs.Attempts.{keeps-centre, attempt-above, attempt-centered, attempt-bare}
 use borrow.Author.Needs.{needs}
 use Rattle.cuts.proofs.cut_adjacent_pair.Statement.{statement}
 use Rattle.cuts.proofs.cut_adjacent_pair.Tie as tie
@@ -31,7 +31,7 @@ same-length-2 : tie.Need-same-length-2
 same-length-2 c = search needs
 
 returns-2 : tie.Need-returns-2
-returns-2 c = attempt-kept _ _ _ _ (c .before .before .before .before .before .before .before .before .before .before .before .pair-bonds .ensures .0) _ (sym (c .before .before .before .before .before .before .before .before .before .before .workspace-exceeded .ensures) ∙ c .before .before .before .before .before .before .before .before .before .if1 .left) (sym (c .before .before .before .before .before .before .before .before .keeps-center .ensures) ∙ c .before .before .before .before .before .before .before .if2 .taken) (c .before .before .before .before .cut-centered .ensures)
+returns-2 c = attempt-centered _ _ _ _ (c .before .before .before .before .before .before .before .before .before .before .before .pair-bonds .ensures .0) _ _ (sym (c .before .before .before .before .before .before .before .before .before .before .workspace-exceeded .ensures) ∙ c .before .before .before .before .before .before .before .before .before .if1 .left) (sym (c .before .before .before .before .before .before .before .before .keeps-center .ensures) ∙ c .before .before .before .before .before .before .before .if2 .taken) (c .before .before .before .before .cut-centered .ensures)
 
 same-length-3 : tie.Need-same-length-3
 same-length-3 c = search needs
@@ -40,7 +40,7 @@ same-length-4 : tie.Need-same-length-4
 same-length-4 c = search needs
 
 returns-3 : tie.Need-returns-3
-returns-3 c = attempt-bare _ _ _ _ (c .before .before .before .before .before .before .before .before .before .before .before .pair-bonds .ensures .0) _ (sym (c .before .before .before .before .before .before .before .before .before .before .workspace-exceeded .ensures) ∙ c .before .before .before .before .before .before .before .before .before .if1 .left) (sym (c .before .before .before .before .before .before .before .before .keeps-center .ensures) ∙ c .before .before .before .before .before .before .before .if2 .left) (c .before .before .before .before .cut-pair .ensures)
+returns-3 c = attempt-bare _ _ _ _ (c .before .before .before .before .before .before .before .before .before .before .before .pair-bonds .ensures .0) _ _ (sym (c .before .before .before .before .before .before .before .before .before .before .workspace-exceeded .ensures) ∙ c .before .before .before .before .before .before .before .before .before .if1 .left) (sym (c .before .before .before .before .before .before .before .before .keeps-center .ensures) ∙ c .before .before .before .before .before .before .before .if2 .left) (c .before .before .before .before .cut-pair .ensures)
 
 pub cut-adjacent-pair-spec : {M : Type 1} → statement M
 cut-adjacent-pair-spec =

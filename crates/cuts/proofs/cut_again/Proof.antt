@@ -1,7 +1,6 @@
-use mathlib.Core.Path.{ap, _∙_}
+use mathlib.Core.Path.{_∙_}
 use native.Mathlib.Omega.{arith}
-use Rattle.model.specs.Cut.{attempt}
-use Rattle.cuts.specs.Attempts.{ranOf, ready-keeps, established-keeps}
+use Rattle.cuts.specs.Attempts.{ready-keeps, established-keeps, attempt-at}
 use borrow.Author.Needs.{needs}
 use Rattle.cuts.proofs.cut_again.Statement.{statement}
 use Rattle.cuts.proofs.cut_again.Tie as tie
@@ -13,8 +12,8 @@ cut-adjacent-pair-requires : tie.Need-cut-adjacent-pair-requires
 cut-adjacent-pair-requires c κs = let x = established-keeps _ _ _ _ (c .before .before .before .before .before .before .before .before .before .before .before .pre .0 .sound) _ (c .before .before .before .before .before .before .before .before .before .before .before .pre .1) (c .before .before .before .before .before .before .establish-center .ensures) in
     (ready-keeps _ _ _ _ _ _ (c .before .before .before .before .before .before .before .before .before .before .before .pre .0) x (c .before .before .before .before .before .before .establish-center .kept .1 .0) (c .before .before .before .before .before .before .establish-center .kept .1 .1 .0), omega (arith, x .qubits, c .before .before .before .before .before .before .before .before .before .before .before .pre .1))
 
-run-of-requires : tie.Need-run-of-requires
-run-of-requires c κs = search needs
+gated-requires : tie.Need-gated-requires
+gated-requires c κs = search needs
 
 same-length : tie.Need-same-length
 same-length c = search needs
@@ -23,7 +22,7 @@ same-length-2 : tie.Need-same-length-2
 same-length-2 c = search needs
 
 returns : tie.Need-returns
-returns c = rw (c .run-of .ensures .0, c .run-of .ensures .1) (ap ranOf (c .before .before .before .before .before .cut-adjacent-pair .ensures ∙ ap (attempt _ _) (c .before .before .before .before .before .before .before .before .before .before .before .before .establish-center .ensures)))
+returns c = rw (c .gated .ensures .0, c .gated .ensures .1) (c .before .before .before .before .before .cut-adjacent-pair .ensures .answers ∙ attempt-at _ _ _ _ (c .before .before .before .before .before .before .before .before .before .before .before .before .establish-center .ensures))
 
 pub cut-again-spec : {M : Type 1} → statement M
 cut-again-spec =
@@ -31,7 +30,7 @@ cut-again-spec =
     (tie.spec
     establish-center-requires
     cut-adjacent-pair-requires
-    run-of-requires
+    gated-requires
     same-length
     same-length-2
     returns)

@@ -1,7 +1,5 @@
-use mathlib.Core.Path.{ap, _∙_}
 use native.Mathlib.Omega.{arith}
-use Rattle.model.specs.Cut.{cutWith}
-use Rattle.cuts.specs.Attempts.{ready-keeps, prepared-keeps}
+use Rattle.cuts.specs.Attempts.{ready-keeps, prepared-keeps, cut-at}
 use borrow.Author.Needs.{needs}
 use Rattle.cuts.proofs.cut_centered.Statement.{statement}
 use Rattle.cuts.proofs.cut_centered.Tie as tie
@@ -23,7 +21,7 @@ same-length-2 : tie.Need-same-length-2
 same-length-2 c = search needs
 
 returns : tie.Need-returns
-returns c = c .before .before .before .before .cut-pair .ensures ∙ ap (cutWith _ _ _) (c .before .before .before .before .before .before .before .before .before .before .before .before .before .before .before .before .prepare-center .ensures)
+returns c = cut-at _ _ _ _ _ _ _ (c .before .before .before .before .before .before .before .before .before .before .before .before .before .before .before .before .prepare-center .ensures) (c .before .before .before .before .cut-pair .ensures)
 
 pub cut-centered-spec : {M : Type 1} → statement M
 cut-centered-spec =

@@ -13,7 +13,7 @@ discards-resolvable-weight-requires : tie.Need-discards-resolvable-weight-requir
 discards-resolvable-weight-requires c κs = search needs
 
 returns : tie.Need-returns
-returns c = record { rank = c .before .before .truncated-svd-rank .ensures; resolvable = c .discards-resolvable-weight .ensures; share = c .before .discarded-share .ensures }
+returns c = record { rank = c .before .before .truncated-svd-rank .ensures .0; reason = c .before .before .truncated-svd-rank .ensures .1; resolvable = c .discards-resolvable-weight .ensures; share = c .before .discarded-share .ensures }
 
 pub keep-spec : {M : Type 1} → statement M
 keep-spec =

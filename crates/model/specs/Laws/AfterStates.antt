@@ -25,7 +25,7 @@ use Rattle.model.specs.Chain.{siteOf}
 use Rattle.model.specs.Slots.{State, storeRoom, workRoom}
 use Rattle.model.specs.Cut.{Ran, attempt, adjacent}
 use Rattle.model.specs.Moves.{established}
-use Rattle.model.specs.Routing.{Step, stepped, runSteps, gateRun}
+use Rattle.model.specs.Routing.{Step, stepped, runSteps, gateRun, gateReason}
 use Rattle.model.specs.Born.{readied, projectedAt, resetAt, drawnAt}
 use Rattle.model.specs.Answers.{View, viewAnswer, viewApplied, viewProjected, viewMeasured}
 use Rattle.model.specs.Sound.{share01, sound}
@@ -260,8 +260,8 @@ module _ (s : State) (work : List Float) where
     unfolding gateCall
     gate-leaves gate =
         let r = gateRun gate q0 q1 s in
-        call-leaves viewApplied s work (min p q) (max p q) (gateRefusal s work q0 q1 gate) (appliedOf (r .refused)) (applied.Refused (gateRefusal s work q0 q1 gate)) (r .state)
-        (gate-least s work q0 q1 gate) refl (rw (applied-number (r .refused)) (gateRun-late gate q0 q1 s))
+        call-leaves viewApplied s work (min p q) (max p q) (gateRefusal s work q0 q1 gate) (appliedOf (gateReason gate q0 q1 s) (r .refused)) (applied.Refused (gateRefusal s work q0 q1 gate)) (r .state)
+        (gate-least s work q0 q1 gate) refl (rw (applied-number (gateReason gate q0 q1 s) (r .refused)) (gateRun-late gate q0 q1 s))
         (λ e. let x = gate-accepted s work q0 q1 gate e in (not-short s work (x .long) .scratch, gate-rewrites gate x .apart))
 
     pub gate-unmoved : (gate : List (List Complex)) →

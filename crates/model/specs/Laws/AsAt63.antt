@@ -3,7 +3,7 @@ use Prim.Native.Nat.{ℕ, zero, suc, _+_, _-_, _*_, _≤_, _<_}
 use native.Mathlib.Omega.{arith}
 use mathlib.Core.Path.{_≡_, refl, sym, ap, ap₂, _∙_}
 use mathlib.Core.Bool.{Bool, true, false, not, _&&_, cond}
-use mathlib.Core.List.{List, [], _∷_}
+use mathlib.Core.List.{List, [], _∷_, map}
 use lib.Dec.{leb, ltb, eqb}
 use borrow.Author.Tests.{le-leb, le-ltb}
 use lib.ListN.{length}
@@ -15,12 +15,13 @@ use Rattle.model.specs.declared.Center.{Center}
 use Rattle.model.specs.declared.Center.the-variants.{Unknown, At}
 use Rattle.model.specs.declared.Chain.{Chain}
 use Rattle.model.specs.declared.WeightSide.the-variants.{Left, Right}
+use Rattle.model.specs.Chain.{siteOf}
 use Rattle.model.specs.Slots.{State, held, storeRoom}
 use Rattle.model.specs.Svd.{values, rawValue, anyNan}
 use Rattle.model.specs.Truncation.{resolvable}
 use Rattle.model.specs.Moves.{stepRight, stepLeft, walkRight, walkLeft, moved, established, centeredOn, Prepared, prepared, preparedOn}
-use Rattle.model.specs.Cut.{Tried, tried, cutWith, attempt, Ran, ran, adjacent}
-use Rattle.model.specs.Routing.{Step, stepped, runSteps, gateRun}
+use Rattle.model.specs.Cut.{keepsCentre, preparedFor, pairOf, rankOf, reasonIn, Tried, tried, cutWith, attempt, Ran, ran, adjacent, attemptReason, adjacentReason}
+use Rattle.model.specs.Routing.{Step, swapStep, gateStep, routeOf, turned, stepped, runSteps, gateRun, gateReason}
 use Rattle.model.specs.Born.{weightAt, unlessClamped, projectedAt, resetAt, readied}
 use Rattle.model.specs.Environment.{leftEnv, rightEnv}
 use Rattle.model.specs.Sound.{settingsFit, bondsFit, sized, sound}
@@ -28,12 +29,11 @@ use Rattle.model.specs.Start.{freshChain}
 use Rattle.model.specs.Answers.{View, viewAnswer, viewApplied, viewProjected, viewMeasured}
 use Rattle.model.specs.Calls.{After, after, cleared, Started, startCall, gateRefusal, gateCall, namedGateCall, projectRefusal, projectCall, measureRefusal, measureCall, resetRefusal, resetCall, leftEnvironmentCall, rightEnvironmentCall}
 use Rattle.model.specs.Lists.{Call, gate, named, project, measure, reset, left, answerOf, stateOf, answersOf, finalState}
-use Rattle.model.specs.Statements.Table.{pairOf, rankOf, gateSteps}
-use Rattle.model.specs.Statements.Pinned.{keepsCentre, preparedFor}
+use Rattle.model.specs.Statements.Table.{gateSteps}
 use Rattle.model.specs.Statements.Soundness.{Sound}
 use Rattle.model.specs.Statements.Uncapped.{withExponent, under, AsAt63}
 use Rattle.model.specs.Laws.MoveLaws.{lastSite, established-narrowed}
-use Rattle.model.specs.Laws.SoundKept.{narrowed-keeps, attempt-keeps, Inside, stepped-keeps, gate-accepted}
+use Rattle.model.specs.Laws.SoundKept.{narrowed-keeps, attempt-keeps, Inside, inside-first, inside-last, stepped-keeps, runSteps-keeps, gate-accepted}
 use Rattle.model.specs.Laws.StartLaws.{start-accepted}
 use Rattle.model.specs.Laws.NeverSix.{workspace-enough}
 
@@ -116,6 +116,9 @@ module _ (e : ℕ) where
       let d = pairOf g k (p .state) in
       mapped triedUnder (anyNan (d .wide) (rawValue d)) (λ t. refl) (mapped triedUnder (not maintained && resolvable (values d) (rankOf (p .state) d)) (λ t. refl) refl)
 
+  attemptReason-under : (g : List (List Complex)) (k : ℕ) (s : State) → attemptReason g k (under e s) ≡ attemptReason g k s
+  attemptReason-under g k s = ap (λ (p : Prepared). reasonIn g k (p .state)) (preparedFor-under k s)
+
   module _ (wide : 63 ≤ e) where
     attempt-under : (g : List (List Complex)) (k : ℕ) (s : State) → Sound (s .chain) → 63 ≤ s .chain .«workspace_exponent» → k + 1 < s .chain .«num_qubits» → attempt g k (under e s) ≡ triedUnder (attempt g k s)
     unfolding attempt
@@ -130,6 +133,12 @@ module _ (e : ℕ) where
         let y = narrowed-keeps (established-narrowed k t (x .sound) (omega (arith, x .qubits))) in
         let second = attempt-under g k (established k t) (y .sound) (omega (arith, x .exponent, y .exponent)) (omega (arith, x .qubits, y .qubits)) in
         rw (attempt-under g k s h wide′ inside, established-under k t, second) (mapped ranUnder (attempt g k s .again) (λ a. refl) refl)
+
+    adjacentReason-under : (g : List (List Complex)) (k : ℕ) (s : State) → Sound (s .chain) → 63 ≤ s .chain .«workspace_exponent» → k + 1 < s .chain .«num_qubits» → adjacentReason g k (under e s) ≡ adjacentReason g k s
+    unfolding adjacentReason
+    adjacentReason-under g k s h wide′ inside =
+        let t = attempt g k s .state in
+        rw (attempt-under g k s h wide′ inside, established-under k t, attemptReason-under g k (established k t), attemptReason-under g k s)
 
     stepped-under : (x : Step) (s : State) → Sound (s .chain) → 63 ≤ s .chain .«workspace_exponent» → x .site + 1 < s .chain .«num_qubits» → stepped x (under e s) ≡ ranUnder (stepped x s)
     unfolding stepped
@@ -146,6 +155,17 @@ module _ (e : ℕ) where
         rw (stepped-under x s h wide′ (inside .0))
         (mapped ranUnder (eqb (stepped x s .refused) 0) (λ t. runSteps-under xs (stepped x s .state) (y .sound) (omega (arith, y .exponent)) (rw (y .qubits) (inside .1))) refl)
 
+    reason-under : (g : List (List Complex)) (q0 q1 : ℕ) (s : State) → Sound (s .chain) → 63 ≤ s .chain .«workspace_exponent» → Inside (s .chain .«num_qubits») (gateSteps s q0 q1 g) → gateReason g q0 q1 (under e s) ≡ gateReason g q0 q1 s
+    unfolding gateReason
+    reason-under g q0 q1 s h wide′ inside =
+        let r = routeOf (siteOf (s .chain) q0) (siteOf (s .chain) q1) in
+        let swaps = map swapStep (r .swaps) in
+        let x = inside-first (s .chain .«num_qubits») swaps (gateStep (turned g r) (r .near) ∷ []) inside in
+        let y = runSteps-keeps swaps s h x in
+        rw (runSteps-under swaps s h wide′ x)
+        (adjacentReason-under (turned g r) (r .near) (runSteps swaps s .state) (y .sound) (omega (arith, y .exponent))
+        (rw (y .qubits) (inside-last (s .chain .«num_qubits») swaps (gateStep (turned g r) (r .near)) inside)))
+
   -- ---- the calls
 
   clamped-under : (k : ℕ) (o : Bool) (site : List Float) (s : State) → unlessClamped k o site (under e s) ≡ under e (unlessClamped k o site s)
@@ -160,7 +180,7 @@ module _ (e : ℕ) where
 
     gate-under : (work : List Float) (q0 q1 : ℕ) (g : List (List Complex)) → gateCall (under e s) work q0 q1 g ≡ afterUnder (gateCall s work q0 q1 g)
     unfolding gateCall gateRun cleared
-    gate-under work q0 q1 g = rw same (mapped afterUnder (eqb (gateRefusal s work q0 q1 g) 0) (λ t. let x = gate-accepted s work q0 q1 g t in rw (runSteps-under wide (gateSteps s q0 q1 g) s (x .sound) wide′ (x .inside))) refl)
+    gate-under work q0 q1 g = rw same (mapped afterUnder (eqb (gateRefusal s work q0 q1 g) 0) (λ t. let x = gate-accepted s work q0 q1 g t in rw (reason-under wide g q0 q1 s (x .sound) wide′ (x .inside), runSteps-under wide (gateSteps s q0 q1 g) s (x .sound) wide′ (x .inside))) refl)
 
     -- what a list of calls takes from one
     seen : {A : Type 0} (view : A → View) (call : State → After A) → call (under e s) ≡ afterUnder (call s)

@@ -1,5 +1,5 @@
 -- How a cut ends: refused by 6, refused by 7, or stored, with what it leaves; and steps, which are cuts with their labels.
-use Prim.Native.Nat.{ℕ, _+_, _-_, _^_, _<_}
+use Prim.Native.Nat.{ℕ, suc, _+_, _-_, _^_, _<_}
 use native.Mathlib.Nat.{mul-le-mul}
 use native.Mathlib.Omega.{arith}
 use mathlib.Core.Path.{_≡_, refl, sym, ap, _∙_, subst}
@@ -7,21 +7,22 @@ use mathlib.Core.Logic.{_≢_, inl, inr}
 use mathlib.Core.Bool.{Bool, true, false, not, _&&_, _||_, cond, true≢false}
 use mathlib.Core.List.{List, _∷_}
 use lib.Dec.{T, ltb, eqb}
-use borrow.Author.Tests.{eqb-true, le-leb}
+use borrow.Author.Tests.{eqb-true, eqb-false, le-leb}
 use Rattle.complex.specs.declared.Complex.{Complex}
 use Rattle.model.specs.declared.Center.{Center}
 use Rattle.model.specs.declared.Center.the-variants.{Unknown, At}
+use Rattle.model.specs.declared.Reason.{Reason}
 use Rattle.model.specs.declared.WeightSide.{WeightSide}
 use Rattle.model.specs.declared.WeightSide.the-variants.{Left, Right}
 use Rattle.model.specs.Chain.{withCenter}
 use Rattle.model.specs.Slots.{State, held, lefts, rights}
 use Rattle.model.specs.Svd.{Svd, values, rawValue, anyNan}
-use Rattle.model.specs.Truncation.{resolvable, workspace}
+use Rattle.model.specs.Truncation.{rankReason, resolvable, workspace}
 use Rattle.model.specs.Moves.{walkRight, walkLeft, centered, moved, established, Prepared, prepared, preparedOn}
-use Rattle.model.specs.Cut.{known, canLose, Tried, tried, Ran, ran, concluded, cutStored, cutWith, attempt, adjacent}
+use Rattle.model.specs.Cut.{known, canLose, Tried, tried, Ran, ran, concluded, cutStored, cutWith, attempt, adjacent, keepsCentre, preparedFor, pairOf, rankOf, reasonOf, reasonIn, attemptReason, adjacentReason}
 use Rattle.model.specs.Routing.{Step, follow, stepped, runSteps}
-use Rattle.model.specs.Statements.Table.{AboveWorkspace, mostValues, KeepsCentre, pairOf, rankOf, SomeNan, Resolvable, MadeAgain, DecomposedIn, NanIn}
-use Rattle.model.specs.Statements.Pinned.{keepsCentre, preparedFor, madeAgain, lastIn, LastIn}
+use Rattle.model.specs.Statements.Table.{AboveWorkspace, mostValues, KeepsCentre, SomeNan, Resolvable, MadeAgain, DecomposedIn, NanIn}
+use Rattle.model.specs.Statements.Pinned.{madeAgain, lastIn, LastIn}
 use Rattle.model.specs.Statements.Soundness.{Sound}
 use Rattle.model.specs.Laws.MoveLaws.{lastSite, Narrowed, narrowed-none, established-centre, established-narrowed}
 use Rattle.model.specs.Laws.SoundKept.{relabelledBy, prepared-narrowed}
@@ -158,6 +159,13 @@ module _ (gate : List (List Complex)) (k : ℕ) (s : State) where
   unfolding adjacent
   adjacent-of t e = rw e
 
+  reason-of : (t : Tried) → attempt gate k s ≡ t → adjacentReason gate k s ≡ cond (t .again) (attemptReason gate k (established k (t .state))) (attemptReason gate k s)
+  unfolding adjacentReason
+  reason-of t e = rw e
+
+  as-established : preparedFor k (established k s) .state ≡ established k s
+  as-established = ap (λ (p : Prepared). p .state) (established-prepared k s)
+
   -- a cut that is not made again, and one that is
   cut-once : (MadeAgain gate k s → ⊥) → storedWith gate k (keepsCentre k s) (preparedFor k s) ≡ cutAt gate k s
   cut-once m = ap (cutBy gate k s) (sym (test-false (decides-again gate k s) m))
@@ -186,9 +194,6 @@ module _ (gate : List (List Complex)) (k : ℕ) (s : State) where
         none-twice m n t (inl (inl x), y) = m .0 (x .0)
         none-twice m n t (inl (inr x), y) = m .1 (subst HasNan (x .1) y)
         none-twice m n t (inr x, y) = n (subst HasNan (x .1) y)
-
-        as-established : preparedFor k (established k s) .state ≡ established k s
-        as-established = ap (λ (p : Prepared). p .state) (established-prepared k s)
 
         second : (AboveWorkspace k s → ⊥) → MadeAgain gate k s → adjacent gate k s ≡ ended (attempt gate k (established k s)) → Attempted gate k (established k s) (attempt gate k (established k s))
             → CutEnds gate k s (adjacent gate k s)
@@ -241,6 +246,24 @@ module _ (gate : List (List Complex)) (k : ℕ) (s : State) where
     pub last-narrowed : Narrowed 0 (lastSite s) (s .chain) (lastIn gate k s .chain)
     last-narrowed = decomposed-narrowed (lastIn gate k s) (last-decomposed gate k s)
 
+    -- a cut that is stored has its reason from the values that are stored
+    pub stored-reason : adjacent gate k s .refused ≡ 0 → adjacentReason gate k s ≡ reasonOf s (pairOf gate k (lastIn gate k s))
+    stored-reason z =
+        let same = last-narrowed .rest .settings in
+        first (attempted gate k s) ∙ (λ i. rankReason (same i .epsilon) (same i .cap) (values (pairOf gate k (lastIn gate k s))))
+      where
+        last : Bool → State
+        last made = cond made (established k s) (preparedFor k s .state)
+
+        refused : {n : ℕ} → adjacent gate k s .refused ≡ suc n → ⊥
+        refused e = omega (arith, sym z ∙ e)
+
+        first : Attempted gate k s (attempt gate k s) → adjacentReason gate k s ≡ reasonIn gate k (lastIn gate k s)
+        first (above a e) = absurd (refused (ap (λ (x : Ran). x .refused) (adjacent-of _ e)))
+        first (nan a n e) = absurd (refused (ap (λ (x : Ran). x .refused) (adjacent-of _ e)))
+        first (again a m e) = reason-of _ e ∙ ap (reasonIn gate k) (as-established ∙ ap last (sym (test-true (decides-again gate k s) m)))
+        first (stored a n m e) = reason-of _ e ∙ ap (λ (made : Bool). reasonIn gate k (last made)) (sym (test-false (decides-again gate k s) m))
+
     -- what a refused cut leaves
     pub refused-narrowed : (r : Ran) → CutEnds gate k s r → r .refused ≢ 0 → Narrowed 0 (lastSite s) (s .chain) (r .state .chain)
     refused-narrowed r (above a e) z = rw e (narrowed-none 0 (lastSite s) (s .chain) h)
@@ -272,3 +295,12 @@ stepped-refused x s e =
 pub run-on : (x : Step) (xs : List Step) (s : State) → eqb (stepped x s .refused) 0 ≡ true → runSteps (x ∷ xs) s ≡ runSteps xs (stepped x s .state)
 unfolding runSteps
 run-on x xs s e = ap (λ (b : Bool). cond b (runSteps xs (stepped x s .state)) (stepped x s)) e
+
+-- a run that is not refused has a first step that is not
+pub run-done : (x : Step) (xs : List Step) (s : State) → runSteps (x ∷ xs) s .refused ≡ 0 → eqb (stepped x s .refused) 0 ≡ true
+unfolding runSteps
+run-done x xs s = pick (eqb (stepped x s .refused) 0) refl
+  where
+    pick : (b : Bool) → eqb (stepped x s .refused) 0 ≡ b → cond b (runSteps xs (stepped x s .state)) (stepped x s) .refused ≡ 0 → b ≡ true
+    pick true e z = refl
+    pick false e z = absurd (eqb-false (stepped x s .refused) 0 e z)

@@ -14,9 +14,8 @@ use Rattle.complex.specs.declared.Complex.{Complex}
 use Rattle.model.specs.Slots.{State, amplitude}
 use Rattle.model.specs.Svd.{values}
 use Rattle.model.specs.Truncation.{rank}
-use Rattle.model.specs.Cut.{Ran, adjacent}
+use Rattle.model.specs.Cut.{Ran, adjacent, rankOf}
 use Rattle.model.specs.Pair.{gated, gatedTheta, matrixOf, adjointOf, isometrySite, scaledSite, vtSite, scaledVtSite}
-use Rattle.model.specs.Statements.Table.{rankOf}
 use Rattle.model.specs.Statements.Pinned.{lastIn}
 use Rattle.model.specs.Statements.Demand1Cuts.{cutSvd}
 use Rattle.model.specs.Statements.Soundness.{Sound}

@@ -20,7 +20,7 @@ use Rattle.model.specs.Slots.{State}
 use Rattle.model.specs.Svd.{values}
 use Rattle.model.specs.Truncation.{rank, share, recorded}
 use Rattle.model.specs.Cut.{Ran, ran, adjacent}
-use Rattle.model.specs.Routing.{Step, relabelled, follow, stepped, runSteps, gateRun}
+use Rattle.model.specs.Routing.{Step, relabelled, follow, stepped, runSteps, gateRun, gateReason}
 use Rattle.model.specs.Born.{drawnAt, readied}
 use Rattle.model.specs.Sound.{sound}
 use Rattle.model.specs.Answers.{viewApplied}
@@ -159,7 +159,7 @@ gate-discarded s work q0 q1 g =
     (λ e.
     let x = gate-accepted s work q0 q1 g e in
     let n = gateRun g q0 q1 s .refused in
-    let late = ap (λ (m : ℕ). unlessEarly m shares) (applied-number n) ∙ unless-late n shares (gateRun-late g q0 q1 s) in
+    let late = ap (λ (m : ℕ). unlessEarly m shares) (applied-number (gateReason g q0 q1 s) n) ∙ unless-late n shares (gateRun-late g q0 q1 s) in
     run-discarded (gateSteps s q0 q1 g) s (x .sound) (x .inside) ∙ ap (added (discarded s)) (sym late))
     (λ e. ap (added (discarded s)) (sym (unless-early (gateRefusal s work q0 q1 g) shares (above-zero (gateRefusal s work q0 q1 g) e, gate-least s work q0 q1 g))))
   where

@@ -30,7 +30,7 @@ use Rattle.model.specs.declared.Measured.the-variants as measured
 use Rattle.model.specs.Chain.{siteOf, qubitAt}
 use Rattle.model.specs.Slots.{State, held, slotRoom, storeRoom, workRoom, siteAt}
 use Rattle.model.specs.Cut.{Ran}
-use Rattle.model.specs.Routing.{gateRun}
+use Rattle.model.specs.Routing.{gateRun, gateReason}
 use Rattle.model.specs.Born.{weightAt, drawnAt, projectedAt, resetAt, readied}
 use Rattle.model.specs.Sound.{share01, sound}
 use Rattle.model.specs.Start.{freshChain, freshStore}
@@ -228,18 +228,18 @@ module _ (S : Setup) (D : Fit S) where
   module _ (s : State) (M : Machine) (t : Following S s M) (h : T (sound (s .chain))) where
     -- an accepted gate
     gate-runs : (q0 q1 : ℕ) (g : List (List Complex)) → Moves g → (q0 < S .qubits) × (q1 < S .qubits) × (q0 ≢ q1) → (work : List Float)
-        → (viewApplied (gateAfter (gateRun g q0 q1 s) work .answer) ≡ accepted none) × Following S (left (gateAfter (gateRun g q0 q1 s) work)) (machine.moved g q0 q1 M)
+        → (viewApplied (gateAfter (gateReason g q0 q1 s) (gateRun g q0 q1 s) work .answer) ≡ accepted none) × Following S (left (gateAfter (gateReason g q0 q1 s) (gateRun g q0 q1 s) work)) (machine.moved g q0 q1 M)
     gate-runs q0 q1 g G x work =
         let c = gate-done S D g G q0 q1 s M (x .0) (x .1) (x .2) t in (
-          ap (λ (r : Ran). viewApplied (gateAfter r work .answer)) (c .1),
-          subst (λ (r : Ran). Following S (left (gateAfter r work)) (machine.moved g q0 q1 M)) (sym (c .1)) (subst (λ (N : Machine). Following S (c .0) N) (sym (moved-is g G q0 q1 M)) (c .2)),
+          ap (λ (r : Ran). viewApplied (gateAfter (gateReason g q0 q1 s) r work .answer)) (c .1),
+          subst (λ (r : Ran). Following S (left (gateAfter (gateReason g q0 q1 s) r work)) (machine.moved g q0 q1 M)) (sym (c .1)) (subst (λ (N : Machine). Following S (c .0) N) (sym (moved-is g G q0 q1 M)) (c .2)),
         )
 
     -- a gate by matrix that, unless it is refused, moves bits and phases
     gate-follows : (q0 q1 : ℕ) (g : List (List Complex)) (work : List Float) → (numberOf (gate q0 q1 g work) ≡ 0 → Moves g) → CallFollows (gate q0 q1 g work) s M
     unfolding gateCall reply next refusal
     gate-follows q0 q1 g work G =
-        refused-or-run viewApplied applied.Refused (λ k. refl) (gate q0 q1 g work) s M t work (gateAfter (gateRun g q0 q1 s) (cleared (s .chain) work))
+        refused-or-run viewApplied applied.Refused (λ k. refl) (gate q0 q1 g work) s M t work (gateAfter (gateReason g q0 q1 s) (gateRun g q0 q1 s) (cleared (s .chain) work))
         (λ z. gate-runs q0 q1 g (G z) (two-qubits (S .qubits) q0 q1 (none-refuses (tooShort (S .qubits) (S .cap) (S .long) (length work)) _ (noGate g) z .0)) (cleared (s .chain) work))
         (gateRefusal s work q0 q1 g) (gate-refusal S s (t .tracked .same) h q0 q1 g work)
 
@@ -247,7 +247,7 @@ module _ (S : Setup) (D : Fit S) where
     unfolding namedGateCall gateCall projectCall measureCall resetCall reply next refusal
     call-follows (gate q0 q1 g work) f a = gate-follows q0 q1 g work (allowed-moves (S .qubits) (S .cap) (S .long) q0 q1 g work f a)
     call-follows (named q0 q1 name work) f a =
-        refused-or-run viewApplied applied.Refused (λ k. refl) (named q0 q1 name work) s M t work (gateAfter (gateRun (matrixOf name) q0 q1 s) (cleared (s .chain) work))
+        refused-or-run viewApplied applied.Refused (λ k. refl) (named q0 q1 name work) s M t work (gateAfter (gateReason (matrixOf name) q0 q1 s) (gateRun (matrixOf name) q0 q1 s) (cleared (s .chain) work))
         (λ z. gate-runs q0 q1 (matrixOf name) (named-moves name)
         (two-qubits (S .qubits) q0 q1 (none-refuses (tooShort (S .qubits) (S .cap) (S .long) (length work)) _ false z .0)) (cleared (s .chain) work))
         (gateRefusal s work q0 q1 (matrixOf name)) (named-refusal S s (t .tracked .same) h q0 q1 name work)

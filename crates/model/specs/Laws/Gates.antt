@@ -13,11 +13,12 @@ use Rattle.complex.specs.declared.Complex.{Complex}
 use Rattle.gates.specs.Named.{matrixOf}
 use Rattle.gates.specs.declared.NamedGate.{NamedGate}
 use Rattle.model.specs.declared.Chain.{Chain}
+use Rattle.model.specs.declared.Reason.{Reason}
 use Rattle.model.specs.declared.Applied.{Applied}
 use Rattle.model.specs.declared.Applied.the-variants as applied
 use Rattle.model.specs.Chain.{Labels, labelsOf}
 use Rattle.model.specs.Slots.{State}
-use Rattle.model.specs.Routing.{gateRun, Step, stepped, runSteps}
+use Rattle.model.specs.Routing.{gateRun, gateReason, Step, stepped, runSteps}
 use Rattle.model.specs.Answers.{viewApplied}
 use Rattle.model.specs.Sound.{sound}
 use Rattle.model.specs.Calls.{After, outside, cleared, gateRefusal, gateAfter, gateCall, namedGateCall, after, appliedOf}
@@ -91,8 +92,8 @@ module _ (s : State) (work : List Float) (q0 q1 : ℕ) where
   pub gate-refusals : (g : List (List Complex)) → FirstGround (gateTable s work q0 q1 g) (viewApplied (gateCall s work q0 q1 g .answer) .number)
   unfolding gateCall gateRun
   gate-refusals g = subst (FirstGround (gateTable s work q0 q1 g))
-      (sym (number-picked (λ (a : After Applied). viewApplied (a .answer) .number) (gateRefusal s work q0 q1 g) (gateRun g q0 q1 s .refused) (gateAfter (gateRun g q0 q1 s) (cleared (s .chain) work)) _
-      (applied-number (gateRun g q0 q1 s .refused)) refl))
+      (sym (number-picked (λ (a : After Applied). viewApplied (a .answer) .number) (gateRefusal s work q0 q1 g) (gateRun g q0 q1 s .refused) (gateAfter (gateReason g q0 q1 s) (gateRun g q0 q1 s) (cleared (s .chain) work)) _
+      (applied-number (gateReason g q0 q1 s) (gateRun g q0 q1 s .refused)) refl))
       (first-of (cutRows (gateSteps s q0 q1 g) s) (gateRun g q0 q1 s .refused)
       (decides-unsound (s .chain)) (decides-short (s .chain) (s .store) work) (decides-pair (s .chain) q0 q1) (decides-gate g)
       (λ a b c d. let x = accepted-gate s work q0 q1 g (record { three = a; two = b; four = c; five = d }) in run-first (gateSteps s q0 q1 g) s (x .sound) (x .inside)))
@@ -153,20 +154,20 @@ run-stops (x ∷ xs) s h inside refused =
 
 -- ---- what the call answers and leaves there
 
-module _ (x : Step) (t : State) (work : List Float) where
-  stands : (r : Ran) → CutEnds (x .gate) (x .site) t r → r .refused ≢ 0 → StandsBySix (gateAfter r work) x t ⊎ StandsBySeven (gateAfter r work) x t
-  stands r (above a e) z = inl (ap (λ (y : Ran). appliedOf (y .refused)) e, a, ap (λ (y : Ran). y .state) e)
-  stands r (nan a u n e) z = inr (ap (λ (y : Ran). appliedOf (y .refused)) e, subst (NanIn (x .gate) (x .site) t) (sym (ap (λ (y : Ran). y .state) e)) n)
+module _ (x : Step) (t : State) (reason : Reason) (work : List Float) where
+  stands : (r : Ran) → CutEnds (x .gate) (x .site) t r → r .refused ≢ 0 → StandsBySix (gateAfter reason r work) x t ⊎ StandsBySeven (gateAfter reason r work) x t
+  stands r (above a e) z = inl (ap (λ (y : Ran). appliedOf reason (y .refused)) e, a, ap (λ (y : Ran). y .state) e)
+  stands r (nan a u n e) z = inr (ap (λ (y : Ran). appliedOf reason (y .refused)) e, subst (NanIn (x .gate) (x .site) t) (sym (ap (λ (y : Ran). y .state) e)) n)
   stands r (stored a n e) z = absurd (z (ap (λ (y : Ran). y .refused) e))
 
-stopped : (steps : List Step) (s : State) (work : List Float) (r : Ran) → Sound (s .chain) → r .refused ≢ 0 → Stopped steps s r → StopsAt steps s (gateAfter r work)
-stopped steps s work r h refused z = record {
+stopped : (steps : List Step) (s : State) (reason : Reason) (work : List Float) (r : Ran) → Sound (s .chain) → r .refused ≢ 0 → Stopped steps s r → StopsAt steps s (gateAfter reason r work)
+stopped steps s reason work r h refused z = record {
   before = z .before;
   cut = z .cut;
   rest = z .rest;
   route = z .route;
   done = z .done;
-  stands = stands (z .cut) (runSteps (z .before) s .state) work r (z .ends) refused;
+  stands = stands (z .cut) (runSteps (z .before) s .state) reason work r (z .ends) refused;
   weight = (λ i. z .same .totals i .discarded) ∙ run-discarded (z .before) s h (z .within);
   labels = z .same .labels ∙ run-labels (z .before) s h (z .within) (z .done);
 }
@@ -181,15 +182,15 @@ module _ (s : State) (work : List Float) (q0 q1 : ℕ) (g : List (List Complex))
   pub gate-ran : Late number → eqb (gateRefusal s work q0 q1 g) 0 ≡ true
   unfolding gateCall
   gate-ran l =
-      run-late (λ (a : After Applied). viewApplied (a .answer) .number) (gateRefusal s work q0 q1 g) (gateAfter (gateRun g q0 q1 s) (cleared (s .chain) work)) (after (applied.Refused (gateRefusal s work q0 q1 g)) s work)
+      run-late (λ (a : After Applied). viewApplied (a .answer) .number) (gateRefusal s work q0 q1 g) (gateAfter (gateReason g q0 q1 s) (gateRun g q0 q1 s) (cleared (s .chain) work)) (after (applied.Refused (gateRefusal s work q0 q1 g)) s work)
       refl (gate-least s work q0 q1 g) l
 
-  gate-is-run : eqb (gateRefusal s work q0 q1 g) 0 ≡ true → gateCall s work q0 q1 g ≡ gateAfter (runSteps (gateSteps s q0 q1 g) s) (cleared (s .chain) work)
+  pub gate-is-run : eqb (gateRefusal s work q0 q1 g) 0 ≡ true → gateCall s work q0 q1 g ≡ gateAfter (gateReason g q0 q1 s) (runSteps (gateSteps s q0 q1 g) s) (cleared (s .chain) work)
   unfolding gateCall gateRun
-  gate-is-run e = ap (λ (b : Bool). cond b (gateAfter (gateRun g q0 q1 s) (cleared (s .chain) work)) (after (applied.Refused (gateRefusal s work q0 q1 g)) s work)) e
+  gate-is-run e = ap (λ (b : Bool). cond b (gateAfter (gateReason g q0 q1 s) (gateRun g q0 q1 s) (cleared (s .chain) work)) (after (applied.Refused (gateRefusal s work q0 q1 g)) s work)) e
 
   pub run-number : eqb (gateRefusal s work q0 q1 g) 0 ≡ true → runSteps (gateSteps s q0 q1 g) s .refused ≡ number
-  run-number e = sym (ap (λ (a : After Applied). viewApplied (a .answer) .number) (gate-is-run e) ∙ applied-number (runSteps (gateSteps s q0 q1 g) s .refused))
+  run-number e = sym (ap (λ (a : After Applied). viewApplied (a .answer) .number) (gate-is-run e) ∙ applied-number (gateReason g q0 q1 s) (runSteps (gateSteps s q0 q1 g) s .refused))
 
   pub gate-ends : GateEnds s q0 q1 g (gateCall s work q0 q1 g)
   gate-ends = record {
@@ -202,7 +203,7 @@ module _ (s : State) (work : List Float) (q0 q1 : ℕ) (g : List (List Complex))
         let x = gate-accepted s work q0 q1 g e in
         let some : runSteps (gateSteps s q0 q1 g) s .refused ≢ 0 = λ z. omega (arith, run-number e) in
         subst (StopsAt (gateSteps s q0 q1 g) s) (sym (gate-is-run e))
-        (stopped (gateSteps s q0 q1 g) s (cleared (s .chain) work) (runSteps (gateSteps s q0 q1 g) s) (x .sound) some (run-stops (gateSteps s q0 q1 g) s (x .sound) (x .inside) some));
+        (stopped (gateSteps s q0 q1 g) s (gateReason g q0 q1 s) (cleared (s .chain) work) (runSteps (gateSteps s q0 q1 g) s) (x .sound) some (run-stops (gateSteps s q0 q1 g) s (x .sound) (x .inside) some));
   }
 
 pub stops : Stops

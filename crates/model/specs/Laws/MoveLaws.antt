@@ -21,8 +21,8 @@ use Rattle.model.specs.Slots.{State, lefts, rights, siteAt, slotRoom, st
 use Rattle.model.specs.Qr.{Kept, qr}
 use Rattle.model.specs.Pair.{isometrySite, vtSite}
 use Rattle.model.specs.Moves.{rightMatrix, leftMatrix, absorbedRight, absorbedLeft, stepRight, stepLeft, walkRight, walkLeft, moved, established, centeredOn, Prepared, preparedOn}
+use Rattle.model.specs.Cut.{keepsCentre, preparedFor}
 use Rattle.model.specs.Born.{readied}
-use Rattle.model.specs.Statements.Pinned.{keepsCentre, preparedFor}
 use Rattle.model.specs.Statements.Soundness.{Sound}
 pub use Rattle.model.specs.Statements.CutsAndMoves.{AsBefore, Narrowed, Apart}
 use Rattle.model.specs.Statements.CutsAndMoves.{Moved, MoveLaw, EstablishLaw}

@@ -17,9 +17,9 @@ use Rattle.model.specs.Slots.{State}
 use Rattle.model.specs.Svd.{values, rawValue}
 use Rattle.model.specs.Truncation.{resolution, resolvable}
 use Rattle.model.specs.Moves.{Prepared, prepared, preparedOn, established}
-use Rattle.model.specs.Cut.{known}
-use Rattle.model.specs.Statements.Table.{KeepsCentre, FirstIn, pairOf, rankOf, Resolvable, MadeAgain}
-use Rattle.model.specs.Statements.Pinned.{keepsCentre, preparedFor, madeAgain, lastIn, LastIn, Pinned}
+use Rattle.model.specs.Cut.{known, pairOf, rankOf, keepsCentre, preparedFor}
+use Rattle.model.specs.Statements.Table.{KeepsCentre, FirstIn, Resolvable, MadeAgain}
+use Rattle.model.specs.Statements.Pinned.{madeAgain, lastIn, LastIn, Pinned}
 use Rattle.model.specs.Laws.SoundFacts.{sound-facts, facts-sound}
 use Rattle.model.specs.Laws.Tests.{Decides, decides-as, decides-below, decides-least, decides-self, decides-not, decides-both, decides-either, decides-nans}
 

@@ -18,6 +18,7 @@ use Rattle.model.specs.Laws.Demand3Product as products
 use Rattle.model.specs.Laws.ZeroSigns as signs
 use Rattle.model.specs.Laws.NeverSix as uncapped
 use Rattle.model.specs.Laws.AsAt63 as exponents
+use Rattle.model.specs.Laws.Reasons as reasons
 
 pub promised : Promised
 promised = record {
@@ -56,5 +57,8 @@ promised = record {
   zero-signs = signs.zero-signs;
   never-six = uncapped.never-six;
   as-at-63 = exponents.as-at-63;
+  rank-reasons = reasons.rank-reasons;
+  rank-by-reason = reasons.rank-by-reason;
+  gate-reasons = reasons.gate-reasons;
   marked = examples.marked;
 }

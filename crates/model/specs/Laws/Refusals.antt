@@ -18,6 +18,7 @@ use Rattle.model.specs.declared.Chain.{Chain}
 use Rattle.model.specs.declared.Answer.the-variants as answer
 use Rattle.model.specs.declared.Answer.{Answer}
 use Rattle.model.specs.declared.Measured.{Measured}
+use Rattle.model.specs.declared.Reason.{Reason}
 use Rattle.model.specs.declared.Projected.{Projected}
 use Rattle.model.specs.declared.Projected.the-variants as projected
 use Rattle.model.specs.Chain.{siteOf}
@@ -70,9 +71,9 @@ number-picked f k m x y p q = pick (eqb k 0)
     pick true = p
     pick false = q
 
-pub applied-number : (k : ℕ) → viewApplied (appliedOf k) .number ≡ k
-applied-number zero = refl
-applied-number (suc k) = refl
+pub applied-number : (reason : Reason) (k : ℕ) → viewApplied (appliedOf reason k) .number ≡ k
+applied-number reason zero = refl
+applied-number reason (suc k) = refl
 
 -- ---- the grounds that a call tests before it runs
 

@@ -21,11 +21,11 @@ use Rattle.model.specs.Slots.{State, held, lefts, rights, slotRoom, stor
 use Rattle.model.specs.Svd.{Svd, values}
 use Rattle.model.specs.Pair.{isometrySite, scaledSite, vtSite, scaledVtSite, leftSite, rightSite}
 use Rattle.model.specs.Moves.{moved, established, Prepared, preparedOn}
-use Rattle.model.specs.Cut.{cutStored, Ran, ran, adjacent, weightSite}
+use Rattle.model.specs.Cut.{cutStored, Ran, ran, adjacent, weightSite, rankOf, keepsCentre, preparedFor}
 use Rattle.model.specs.Born.{weightAt, projectedSite, resetSite, projectedAt, resetAt, readied}
 use Rattle.model.specs.Routing.{Step, downTo, routeOf, swapStep, stepsOf, stepped, runSteps}
-use Rattle.model.specs.Statements.Table.{rankOf, DecomposedIn}
-use Rattle.model.specs.Statements.Pinned.{keepsCentre, preparedFor, madeAgain, lastIn}
+use Rattle.model.specs.Statements.Table.{DecomposedIn}
+use Rattle.model.specs.Statements.Pinned.{madeAgain, lastIn}
 use Rattle.model.specs.Statements.Demand1Cuts.{cutSvd}
 use Rattle.model.specs.Statements.Soundness.{Sound}
 use Rattle.model.specs.Laws.SoundFacts.{left-most, right-most}

@@ -22,13 +22,12 @@ use Rattle.model.specs.Slots.{State, held, lefts, rights}
 use Rattle.model.specs.Svd.{Svd, values, rawValue, anyNan}
 use Rattle.model.specs.Truncation.{resolvable, share, recorded, workspace}
 use Rattle.model.specs.Moves.{moved, established, Prepared}
-use Rattle.model.specs.Cut.{Tried, weightSite, cutStored, concluded, cutWith, attempt, Ran, ran, adjacent}
+use Rattle.model.specs.Cut.{Tried, weightSite, cutStored, concluded, cutWith, attempt, Ran, ran, adjacent, rankOf, keepsCentre, preparedFor}
 use Rattle.model.specs.Routing.{downTo, routeOf, Step, swapStep, stepsOf, relabelled, follow, stepped, runSteps, gateRun}
 use Rattle.model.specs.Born.{weightAt, drawnAt, projectedAt, resetAt, readied}
 use Rattle.model.specs.Sound.{sound}
 use Rattle.model.specs.Calls.{After, short, outside, flagged, gateRefusal, gateCall, namedGateCall, projectRefusal, projectCall, measureRefusal, measureCall, resetRefusal, resetCall}
-use Rattle.model.specs.Statements.Table.{rankOf, gateSteps}
-use Rattle.model.specs.Statements.Pinned.{keepsCentre, preparedFor}
+use Rattle.model.specs.Statements.Table.{gateSteps}
 use Rattle.model.specs.Laws.Labels.{sound-maps, sites-apart}
 use Rattle.model.specs.Laws.Refusals.{project-passes, measure-passes, reset-passes, passes-sound, Passes, firstOf-none, two-qubits}
 use Rattle.model.specs.Statements.Soundness.{Sound}
@@ -138,6 +137,15 @@ module _ (gate : List (List Complex)) (k : ℕ) where
 abbrev pub Inside : ℕ → List Step → Type 0
 Inside n [] = Unit
 Inside n (x ∷ xs) = (x .site + 1 < n) × Inside n xs
+
+-- the first steps, and the last one
+pub inside-first : (n : ℕ) (xs ys : List Step) → Inside n (xs ++ ys) → Inside n xs
+inside-first n [] ys h = tt
+inside-first n (x ∷ xs) ys h = (h .0, inside-first n xs ys (h .1))
+
+pub inside-last : (n : ℕ) (xs : List Step) (x : Step) → Inside n (xs ++ (x ∷ [])) → x .site + 1 < n
+inside-last n [] x h = h .0
+inside-last n (y ∷ xs) x h = inside-last n xs x (h .1)
 
 swaps-inside : (n near m : ℕ) (xs : List Step) → near + m + 1 < n → Inside n xs → Inside n (map swapStep (downTo near m) ++ xs)
 swaps-inside n near zero xs l h = h

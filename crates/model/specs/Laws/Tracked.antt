@@ -30,11 +30,10 @@ use Rattle.model.specs.Truncation.{rank, share, recorded, workspace}
 use Rattle.model.specs.Qr.{Kept, qr}
 use Rattle.model.specs.Pair.{pairSvd, isometrySite, vtSite, leftSite, rightSite}
 use Rattle.model.specs.Moves.{qAt, pairStored, rightMatrix, leftMatrix, absorbedRight, absorbedLeft, rightFrom, leftFrom, stepRight, stepLeft, walkRight, walkLeft, moved, established, Prepared}
-use Rattle.model.specs.Cut.{Tried, tried, weightSite, cutStored, concluded, cutWith, attempt, ran, adjacent}
+use Rattle.model.specs.Cut.{Tried, tried, weightSite, cutStored, concluded, cutWith, attempt, ran, adjacent, keepsCentre, preparedFor}
 use Rattle.model.specs.Born.{weight, total, drawn, projectedSite, resetSite, weightAt, totalAt, drawnAt, unlessClamped, projectedAt, resetAt, readied}
 use Rattle.model.specs.Calls.{projectAnswer}
 use Rattle.model.specs.Phases.{Phase, _⊗_, one}
-use Rattle.model.specs.Statements.Pinned.{keepsCentre, preparedFor}
 use Rattle.model.specs.Laws.Units.{Holds, Moves, Fraction}
 use Rattle.model.specs.Laws.UnitCut.{cut-exact}
 use Rattle.model.specs.Laws.UnitSites.{weight-is, total-is, drawn-is, clamped-is, projected-holds, reset-holds, holds-filled, right-exact, left-exact}

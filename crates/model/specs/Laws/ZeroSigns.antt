@@ -18,8 +18,8 @@ use Rattle.model.specs.Slots.{State}
 use Rattle.model.specs.Svd.{svd}
 use Rattle.model.specs.Pair.{theta, gated, matrixOf, adjointOf, pairSvd}
 use Rattle.model.specs.Moves.{Prepared}
-use Rattle.model.specs.Cut.{cutWith, attempt, adjacent}
-use Rattle.model.specs.Routing.{Step, gateStep, swapStep, routeOf, stepped, runSteps, gateRun}
+use Rattle.model.specs.Cut.{cutWith, attempt, adjacent, adjacentReason}
+use Rattle.model.specs.Routing.{Step, gateStep, swapStep, routeOf, turned, stepped, runSteps, gateRun, gateReason}
 use Rattle.model.specs.Calls.{gateCall}
 use Rattle.model.specs.Statements.Demand3.{F64}
 use Rattle.model.specs.Statements.Product.{SameGate, GateF64}
@@ -121,6 +121,10 @@ module _ (g h : List (List Complex)) (l : LevelGate g h) where
   unfolding adjacent
   adjacent-same k s = simp attempt-same
 
+  reasons-same : (k : ℕ) (s : State) → adjacentReason g k s ≡ adjacentReason h k s
+  unfolding adjacentReason
+  reasons-same k s = simp (attempt-same, svd-same)
+
   runs-same : (xs : List Step) (k : ℕ) (s : State) → runSteps (xs ++ (gateStep g k ∷ [])) s ≡ runSteps (xs ++ (gateStep h k ∷ [])) s
   unfolding runSteps stepped
   runs-same [] k s = rw adjacent-same
@@ -132,9 +136,15 @@ run-same g h l q0 q1 s =
     let r = routeOf (siteOf (s .chain) q0) (siteOf (s .chain) q1) in
     runs-same _ _ (turned-level (r .first) g h l) (map swapStep (r .swaps)) (r .near) s
 
+reason-same : (g h : List (List Complex)) → LevelGate g h → (q0 q1 : ℕ) (s : State) → gateReason g q0 q1 s ≡ gateReason h q0 q1 s
+unfolding gateReason
+reason-same g h l q0 q1 s =
+    let r = routeOf (siteOf (s .chain) q0) (siteOf (s .chain) q1) in
+    reasons-same (turned g r) (turned h r) (turned-level (r .first) g h l) (r .near) (runSteps (map swapStep (r .swaps)) s .state)
+
 call-same : (s : State) (work : List Float) (q0 q1 : ℕ) (g h : List (List Complex)) → LevelGate g h → gateCall s work q0 q1 g ≡ gateCall s work q0 q1 h
 unfolding gateCall
-call-same s work q0 q1 g h l = rw (finite-same g h l, run-same g h l)
+call-same s work q0 q1 g h l = rw (finite-same g h l, run-same g h l, reason-same g h l)
 
 pub zero-signs : ZeroSigns
 zero-signs = record {

@@ -17,9 +17,8 @@ use Rattle.model.specs.Chain.{bondLeft, bondRight, settingsOf, labelsOf,
 use Rattle.model.specs.Slots.{State, storeRoom, slotOf, amplitude}
 use Rattle.model.specs.Pair.{gatedTheta, matrixOf, adjointOf, isometrySite, scaledSite, vtSite, scaledVtSite}
 use Rattle.model.specs.Moves.{moved, established}
-use Rattle.model.specs.Cut.{adjacent}
+use Rattle.model.specs.Cut.{adjacent, rankOf}
 use Rattle.model.specs.Statements.Soundness.{Sound}
-use Rattle.model.specs.Statements.Table.{rankOf}
 use Rattle.model.specs.Statements.Demand1Cuts.{cutSvd}
 
 -- ---- the matrix that a cut decomposes (Vidal 2003, equations 8 to 12; Schollwöck 2011, 4.3.1 and 7.1)

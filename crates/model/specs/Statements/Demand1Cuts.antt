@@ -18,11 +18,12 @@ use Rattle.model.specs.Chain.{Labels, labelsOf}
 use Rattle.model.specs.Slots.{State}
 use Rattle.model.specs.Svd.{Svd, values}
 use Rattle.model.specs.Truncation.{share}
+use Rattle.model.specs.Cut.{pairOf, rankOf}
 use Rattle.model.specs.Routing.{Step, stepped, runSteps}
 use Rattle.model.specs.Answers.{viewApplied}
 use Rattle.model.specs.Calls.{After, gateCall, namedGateCall}
 use Rattle.model.specs.Lists.{Call, gate, named, project, measure, reset, left, stateOf, finalState}
-use Rattle.model.specs.Statements.Table.{AboveWorkspace, pairOf, rankOf, NanIn, gateSteps}
+use Rattle.model.specs.Statements.Table.{AboveWorkspace, NanIn, gateSteps}
 use Rattle.model.specs.Statements.Pinned.{lastIn}
 
 -- ---- the shares of the cuts that are stored

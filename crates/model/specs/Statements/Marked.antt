@@ -1,12 +1,12 @@
--- The marked examples of document 01: one list, and one statement that covers it. A row has what the definitions compute, and what the document says it is.
+-- The marked examples of document 01, and those of the reasons of ranks (document 02, W3): one list, and one statement that covers it. A row has what the definitions compute, and what it has to be.
 use Prim.Native.Nat.{ℕ, _/_, _%_, _^_}
 use mathlib.Core.Path.{_≡_, refl}
-use mathlib.Core.Bool.{Bool, true, false, _&&_, cond}
+use mathlib.Core.Bool.{Bool, true, false, _&&_, _||_, cond}
 use mathlib.Core.List.{List, [], _∷_, _++_, map}
 use lib.Dec.{eqb}
 use lib.ListN.{replicate, take}
 use lib.Ieee.{Float, binary64, round, sub, mul, div, le, isNan, ofBits, toBits}
-use Rattle.complex.specs.Complex.{addC, conjC, mulC, normSqr, scaleC, zeroF, oneF}
+use Rattle.complex.specs.Complex.{addC, conjC, mulC, normSqr, scaleC, zeroF, oneF, real, zeroC}
 use Rattle.complex.specs.Loops.{each, between, tabulate, every}
 use Rattle.complex.specs.Numbers.{at, store, numbers}
 use Rattle.complex.specs.Matrix.{rows}
@@ -16,19 +16,22 @@ use Rattle.gates.specs.Gate.{entry, gateOf, swapGateQubits}
 use Rattle.gates.specs.Named.{namedEntry, matrixOf}
 use Rattle.gates.specs.declared.NamedGate.the-variants.{Cx}
 use Rattle.root.specs.Root.{rootOf}
+use Rattle.model.specs.declared.Reason.{Reason}
+use Rattle.model.specs.declared.Reason.the-variants.{Floor, Cap, Tolerance, Full}
 use Rattle.model.specs.Slots.{State, held, workRoom, filled}
 use Rattle.model.specs.Columns.{l2Norm, scaledTo, zeroed}
 use Rattle.model.specs.Qr.{Kept, passOf, passesOf, keptOf, columnOf, raised, qr}
 use Rattle.model.specs.Jacobi.{skipped, pairStep, rowOfPairs, sweep, sweeps}
 use Rattle.model.specs.Svd.{identityAt, normalised, factored, earlier, later, orderOf, anyNan, values, svd}
-use Rattle.model.specs.Truncation.{rank, resolvable, share, recorded, cutRank}
+use Rattle.model.specs.Truncation.{rank, rankReason, resolvable, share, recorded, cutRank}
 use Rattle.model.specs.Pair as pair
 use Rattle.model.specs.Pair.{pairSvd, isometrySite, scaledSite, vtSite, scaledVtSite}
 use Rattle.model.specs.Moves.{qAt, rAt, absorbedRight, stepRight, absorbedLeft, stepLeft, walkRight, walkLeft, moved, established}
-use Rattle.model.specs.Cut.{cutWith, attempt, adjacent}
-use Rattle.model.specs.Routing.{stepped, runSteps, gateRun}
+use Rattle.model.specs.Cut.{cutWith, attempt, adjacent, adjacentReason}
+use Rattle.model.specs.Routing.{stepped, runSteps, gateRun, gateReason}
 use Rattle.model.specs.Sound.{settingsFit, bondsFit, undoes, sized, sound}
 use Rattle.model.specs.Start.{freshChain, freshStore}
+use Rattle.model.specs.Answers.{toldApplied}
 use Rattle.model.specs.Calls.{gateCall, namedGateCall}
 
 pub record Row : Type 0 where
@@ -64,6 +67,16 @@ floats xs ys = wholes (map (toBits binary64) xs) (map (toBits binary64) ys)
 abbrev pub float : Float → Float → Row
 float x y = floats (x ∷ []) (y ∷ [])
 
+-- rows of reasons, by their places in the order in which they are tried
+abbrev pub place : Reason → ℕ
+place Floor = 0
+place Cap = 1
+place Tolerance = 2
+place Full = 3
+
+abbrev pub reason : Reason → Reason → Row
+reason r t = whole (place r) (place t)
+
 -- ---- what the rows are written with
 
 -- the float nearest to a / b
@@ -78,12 +91,22 @@ parts g = tabulate 16 (λ k. entry g (k / 4) (k % 4) .re) ++ tabulate 16 (λ k. 
 abbrev pub factors : Kept → List Float
 factors f = qAt 2 f 0 0 .re ∷ qAt 2 f 0 0 .im ∷ qAt 2 f 1 0 .re ∷ qAt 2 f 1 0 .im ∷ rAt 2 1 f 0 0 .re ∷ rAt 2 1 f 0 0 .im ∷ []
 
--- a fresh chain of n qubits, with cap 1, epsilon 0, clamp 0 and workspace exponent 5; and its qubits by site after a Cx on q0 and q1
-abbrev pub fresh : ℕ → State
-fresh n = held (freshChain n 1 zeroF zeroF 5) (freshStore n 1 [])
+-- a fresh chain of n qubits under the cap d, with epsilon 0, clamp 0 and workspace exponent 5
+abbrev pub fresh : ℕ → ℕ → State
+fresh n d = held (freshChain n d zeroF zeroF 5) (freshStore n d [])
 
+-- the qubits by site after a Cx on q0 and q1, under the cap 1
 abbrev pub qubitsAfter : ℕ → ℕ → ℕ → List ℕ
-qubitsAfter n q0 q1 = take n (namedGateCall (fresh n) (replicate (workRoom 1) zeroF) q0 q1 Cx .chain .«site_to_logical»)
+qubitsAfter n q0 q1 = take n (namedGateCall (fresh n 1) (replicate (workRoom 1) zeroF) q0 q1 Cx .chain .«site_to_logical»)
+
+-- "E, ones at (0,0) and (3,0) only"; what it answers on a fresh chain of two qubits: the number, and the place of the reason
+abbrev pub onesFirst : List (List Complex)
+onesFirst = gateOf (λ r c. cond (eqb c 0 && (eqb r 0 || eqb r 3)) (real oneF) zeroC)
+
+abbrev pub answered : ℕ → List ℕ
+answered d =
+    let a = toldApplied (gateCall (fresh 2 d) (replicate (workRoom d) zeroF) 0 1 onesFirst .answer) in
+    a .number ∷ map place (a .reason)
 
 -- ---- the list
 
@@ -103,6 +126,11 @@ table =
     ∷ whole (rank (ratio 1 2) 3 (ratio 4 1 ∷ ratio 2 1 ∷ oneF ∷ [])) 1
     ∷ whole (rank zeroF 2 (zeroF ∷ zeroF ∷ [])) 1
     ∷ whole (rank zeroF 1 (oneF ∷ oneF ∷ [])) 1
+    -- (W3) why; of (1,1), epsilon 0, D 2 too
+    ∷ reason (rankReason (ratio 1 2) 3 (ratio 4 1 ∷ ratio 2 1 ∷ oneF ∷ [])) Tolerance
+    ∷ reason (rankReason zeroF 2 (zeroF ∷ zeroF ∷ [])) Floor
+    ∷ reason (rankReason zeroF 1 (oneF ∷ oneF ∷ [])) Cap
+    ∷ reason (rankReason zeroF 2 (oneF ∷ oneF ∷ [])) Full
     -- "(1, 2^-50) kept 1 drops nothing resolvable; (1, 2^-49) does"
     ∷ test (resolvable (oneF ∷ ratio 1 (2 ^ 50) ∷ []) 1) false
     ∷ test (resolvable (oneF ∷ ratio 1 (2 ^ 49) ∷ []) 1) true
@@ -116,8 +144,11 @@ table =
     ∷ floats (factors (qr 2 1 (zeroF ∷ zeroF ∷ zeroF ∷ zeroF ∷ []))) (oneF ∷ zeroF ∷ zeroF ∷ zeroF ∷ zeroF ∷ zeroF ∷ [])
     -- "n 4, pair (0,3): qubits by site become 0,3,1,2"
     ∷ wholes (qubitsAfter 4 0 3) (0 ∷ 3 ∷ 1 ∷ 2 ∷ [])
+    -- (W3) E on a fresh n 2: D 1 Cap, D 2 Full
+    ∷ wholes (answered 1) (0 ∷ place Cap ∷ [])
+    ∷ wholes (answered 2) (0 ∷ place Full ∷ [])
     ∷ []
 
 pub marked : allHold table ≡ true
-unfolding table sub mul div le isNan ofBits toBits addC conjC mulC normSqr scaleC each between tabulate every at store numbers rows finiteC allFinite gateOf swapGateQubits namedEntry matrixOf rootOf filled l2Norm scaledTo zeroed passOf passesOf keptOf columnOf raised qr skipped pairStep rowOfPairs sweep sweeps identityAt normalised factored earlier later orderOf anyNan values svd rank resolvable share pair.matrixOf pairSvd isometrySite scaledSite vtSite scaledVtSite absorbedRight stepRight absorbedLeft stepLeft walkRight walkLeft moved established cutWith attempt adjacent stepped runSteps gateRun settingsFit bondsFit undoes sized sound freshChain freshStore gateCall namedGateCall
+unfolding table sub mul div le isNan ofBits toBits addC conjC mulC normSqr scaleC each between tabulate every at store numbers rows finiteC allFinite gateOf swapGateQubits namedEntry matrixOf rootOf filled l2Norm scaledTo zeroed passOf passesOf keptOf columnOf raised qr skipped pairStep rowOfPairs sweep sweeps identityAt normalised factored earlier later orderOf anyNan values svd rank rankReason resolvable share pair.matrixOf pairSvd isometrySite scaledSite vtSite scaledVtSite absorbedRight stepRight absorbedLeft stepLeft walkRight walkLeft moved established cutWith attempt adjacent adjacentReason stepped runSteps gateRun gateReason settingsFit bondsFit undoes sized sound freshChain freshStore gateCall namedGateCall
 marked = refl

@@ -1,31 +1,23 @@
 -- The tests by which statements compute, and the laws that pin them to the propositions of `Soundness` and `Table`, so that the tests need not be believed.
 -- Statements only; `Laws/PinnedProof` proves them.
-use Prim.Native.Nat.{ℕ, _+_}
+use Prim.Native.Nat.{ℕ}
 use mathlib.Core.Path.{_≡_}
 use mathlib.Core.Logic.{_⊎_, _↔_}
-use mathlib.Core.Bool.{Bool, not, _&&_, _||_, cond}
+use mathlib.Core.Bool.{Bool, not, _&&_, cond}
 use mathlib.Core.List.{List}
 use lib.Dec.{T}
 use Rattle.complex.specs.declared.Complex.{Complex}
 use Rattle.model.specs.declared.Chain.{Chain}
-use Rattle.model.specs.declared.WeightSide.the-variants.{Right}
-use Rattle.model.specs.Slots.{State, lefts, rights}
+use Rattle.model.specs.Slots.{State}
 use Rattle.model.specs.Svd.{values, rawValue, anyNan}
-use Rattle.model.specs.Truncation.{cutRank, resolvable}
-use Rattle.model.specs.Moves.{established, Prepared, prepared, preparedOn}
-use Rattle.model.specs.Cut.{known, canLose}
+use Rattle.model.specs.Truncation.{resolvable}
+use Rattle.model.specs.Moves.{established}
+use Rattle.model.specs.Cut.{keepsCentre, preparedFor, pairOf, rankOf}
 use Rattle.model.specs.Sound.{sound}
 use Rattle.model.specs.Statements.Soundness.{Sound}
-use Rattle.model.specs.Statements.Table.{KeepsCentre, FirstIn, pairOf, rankOf, MadeAgain}
+use Rattle.model.specs.Statements.Table.{KeepsCentre, FirstIn, MadeAgain}
 
 -- ---- a cut between the sites k and k + 1
-
--- whether it keeps a centre, and the pair as it is first decomposed
-abbrev pub keepsCentre : ℕ → State → Bool
-keepsCentre k s = known (s .chain .center) || canLose (s .chain) (cutRank (lefts s k) (rights s k) (rights s (k + 1)))
-
-abbrev pub preparedFor : ℕ → State → Prepared
-preparedFor k s = cond (keepsCentre k s) (preparedOn k (s .chain .center) s) (prepared Right s)
 
 -- whether it is made again, and the state in which the pair is last decomposed
 abbrev pub madeAgain : List (List Complex) → ℕ → State → Bool

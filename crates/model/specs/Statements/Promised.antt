@@ -26,6 +26,7 @@ use Rattle.model.specs.Statements.Demand3.{Demand3}
 use Rattle.model.specs.Statements.Product.{ProductClause, RunClause}
 use Rattle.model.specs.Statements.ZeroSigns.{ZeroSigns}
 use Rattle.model.specs.Statements.Uncapped.{NeverSix, AsAt63}
+use Rattle.model.specs.Statements.Reasons.{RankReasons, RankByReason, GateReasons}
 use Rattle.model.specs.Statements.Marked.{allHold, table}
 
 pub record Promised : Type 0 where
@@ -73,5 +74,9 @@ pub record Promised : Type 0 where
   -- W9: a workspace exponent of 64 or more
   pub never-six : NeverSix
   pub as-at-63 : AsAt63
-  -- document 01's marked examples
+  -- W3: why a rank was chosen
+  pub rank-reasons : RankReasons
+  pub rank-by-reason : RankByReason
+  pub gate-reasons : GateReasons
+  -- the marked examples of documents 01 and 02
   pub marked : allHold table ≡ true

@@ -16,11 +16,10 @@ use Rattle.gates.specs.Gate.{entry}
 use Rattle.model.specs.declared.Chain.{Chain}
 use Rattle.model.specs.declared.Center.the-variants.{At}
 use Rattle.model.specs.Chain.{siteOf}
-use Rattle.model.specs.Slots.{State, lefts, rights, siteAt}
+use Rattle.model.specs.Slots.{State, lefts, rights}
 use Rattle.model.specs.Svd.{Svd, values, rawValue}
-use Rattle.model.specs.Truncation.{rank}
-use Rattle.model.specs.Pair.{pairSvd}
 use Rattle.model.specs.Moves.{established, preparedOn}
+use Rattle.model.specs.Cut.{pairOf, rankOf}
 use Rattle.model.specs.Routing.{Step, routeOf, stepsOf, stepped}
 use Rattle.model.specs.Statements.Soundness.{Settings, Sound}
 
@@ -108,14 +107,6 @@ KeepsCentre k s = ((j : ℕ) × (s .chain .center ≡ At j)) ⊎ CanLose k s
 -- t is the state in which the pair is first decomposed: with the centre brought onto it if one is kept, else as it stands
 abbrev pub FirstIn : ℕ → State → State → Type 0
 FirstIn k s t = (KeepsCentre k s × (t ≡ preparedOn k (s .chain .center) s .state)) ⊎ ((KeepsCentre k s → ⊥) × (t ≡ s))
-
--- the decomposition of the pair
-abbrev pub pairOf : List (List Complex) → ℕ → State → Svd
-pairOf gate k s = pairSvd (s .chain .«norm_clamp_min») (lefts s k) (rights s k) (rights s (k + 1)) gate (siteAt s k) (siteAt s (k + 1))
-
--- the number of values that the rule keeps
-abbrev pub rankOf : State → Svd → ℕ
-rankOf s d = rank (s .chain .«svd_epsilon») (s .chain .«max_bond_dim») (values d)
 
 abbrev pub SomeNan : Svd → Type 0
 SomeNan d = (j : ℕ) × (j < d .wide) × (rawValue d j ≡ nan)
