@@ -91,22 +91,23 @@ parts g = tabulate 16 (λ k. entry g (k / 4) (k % 4) .re) ++ tabulate 16 (λ k. 
 abbrev pub factors : Kept → List Float
 factors f = qAt 2 f 0 0 .re ∷ qAt 2 f 0 0 .im ∷ qAt 2 f 1 0 .re ∷ qAt 2 f 1 0 .im ∷ rAt 2 1 f 0 0 .re ∷ rAt 2 1 f 0 0 .im ∷ []
 
--- a fresh chain of n qubits under the cap d, with epsilon 0, clamp 0 and workspace exponent 5
+-- a fresh chain of n qubits under the cap d, with epsilon 0, clamp 0 and workspace exponent 5; and a work slice under that cap
 abbrev pub fresh : ℕ → ℕ → State
 fresh n d = held (freshChain n d zeroF zeroF 5) (freshStore n d [])
 
+abbrev pub work : ℕ → List Float
+work d = replicate (workRoom d) zeroF
+
 -- the qubits by site after a Cx on q0 and q1, under the cap 1
 abbrev pub qubitsAfter : ℕ → ℕ → ℕ → List ℕ
-qubitsAfter n q0 q1 = take n (namedGateCall (fresh n 1) (replicate (workRoom 1) zeroF) q0 q1 Cx .chain .«site_to_logical»)
+qubitsAfter n q0 q1 = take n (namedGateCall (fresh n 1) (work 1) q0 q1 Cx .chain .«site_to_logical»)
 
--- "E, ones at (0,0) and (3,0) only"; what it answers on a fresh chain of two qubits: the number, and the place of the reason
+-- "E, ones at (0,0) and (3,0) only"; what it answers on q0 and q1: the number, and the place of the reason
 abbrev pub onesFirst : List (List Complex)
 onesFirst = gateOf (λ r c. cond (eqb c 0 && (eqb r 0 || eqb r 3)) (real oneF) zeroC)
 
-abbrev pub answered : ℕ → List ℕ
-answered d =
-    let a = toldApplied (gateCall (fresh 2 d) (replicate (workRoom d) zeroF) 0 1 onesFirst .answer) in
-    a .number ∷ map place (a .reason)
+abbrev pub told : ℕ → ℕ → ℕ → ℕ → List ℕ
+told n d q0 q1 = let a = toldApplied (gateCall (fresh n d) (work d) q0 q1 onesFirst .answer) in a .number ∷ map place (a .reason)
 
 -- ---- the list
 
@@ -145,8 +146,10 @@ table =
     -- "n 4, pair (0,3): qubits by site become 0,3,1,2"
     ∷ wholes (qubitsAfter 4 0 3) (0 ∷ 3 ∷ 1 ∷ 2 ∷ [])
     -- (W3) E on a fresh n 2: D 1 Cap, D 2 Full
-    ∷ wholes (answered 1) (0 ∷ place Cap ∷ [])
-    ∷ wholes (answered 2) (0 ∷ place Full ∷ [])
+    ∷ wholes (told 2 1 0 1) (0 ∷ place Cap ∷ [])
+    ∷ wholes (told 2 2 0 1) (0 ∷ place Full ∷ [])
+    -- (W3) E on (0,2) of a fresh n 3, D 2: the gate's own, Full, and not the swap's, Tolerance
+    ∷ wholes (told 3 2 0 2) (0 ∷ place Full ∷ [])
     ∷ []
 
 pub marked : allHold table ≡ true
