@@ -136,6 +136,12 @@ body = [fn(MOD, m, "    ") for m in METHODS + [INIT]]
 out.append("impl MpsBackend {\n" + "\n\n".join(body) + "\n}")
 gen_mod = "\n\n".join(out) + "\n"
 gen_mod = replace(gen_mod, "NORM_CLAMP_MIN", "norm_clamp_min()", 2)
+# document 02, W3: oracle_calls tells the values of the cut that a gate stored last, and whether it was made again
+gen_mod = replace(gen_mod, "    fn record_truncation(&mut self, singular_values: &[f64], chi_kept: usize) {\n",
+                  "    fn record_truncation(&mut self, singular_values: &[f64], chi_kept: usize) {\n"
+                  "        crate::surround::note_stored(singular_values, chi_kept);\n", 1)
+gen_mod = replace(gen_mod, "            return Ok(false);\n",
+                  "            crate::surround::note_retry();\n            return Ok(false);\n", 1)
 
 # ---------------------------------------------------------------- mps/svd.rs: the whole file
 gen_svd = SVD

@@ -6,9 +6,10 @@
 ORACLE is the program oracle_calls (build_oracle.py), HARNESS one over the port's calls (build_harness.py;
 harness.rt.txt says what it reads and writes). Both read the same words. After each call are compared: the answer, every field of the
 record, every number of the store, of the work slice and of the result slice. What the oracle cannot be handed, an
-unsound record, is held against document 01. All NaNs count as one.
+unsound record, is held against document 01. The Rust has no reasons: an accepted gate's is found here, by `reason`, from
+the values that the oracle's last stored cut had. All NaNs count as one.
 """
-import argparse, collections, copy, math, os, random, resource, struct, subprocess, sys
+import argparse, collections, copy, itertools, math, os, random, resource, struct, subprocess, sys
 from array import array
 
 START, GATE, NAMED, PROJECT, MEASURE, RESET, LEFT, RIGHT = 1, 2, 3, 4, 5, 6, 7, 8
@@ -22,6 +23,9 @@ BIG = (1 << 64) - 1
 def bits(x):
     return NAN if x != x else struct.unpack("<Q", struct.pack("<d", x))[0]
 
+def float_of(w):
+    return struct.unpack("<d", struct.pack("<Q", w))[0]
+
 def canon(w):
     return NAN if (w & 0x7FFFFFFFFFFFFFFF) > 0x7FF0000000000000 else w
 
@@ -30,6 +34,31 @@ def store_room(n, d):
 
 def work_room(d):
     return 80 * d * d + 16 * d
+
+# ---------------------------------------------------------------- why a cut keeps so many values: the buyer's words, W3
+# in the order in which the harness numbers them, from 1
+REASONS = ["Floor", "Cap", "Tolerance", "Full"]
+
+def leading(values, epsilon):
+    """How many values lead that are above epsilon times the first."""
+    return sum(1 for _ in itertools.takewhile(lambda s: s > epsilon * values[0], values))
+
+def rank(values, epsilon, cap):
+    return min(max(leading(values, epsilon), 1), cap)
+
+def reason(values, epsilon, cap):
+    """Floor if the rank was raised to 1, else Cap if it was lowered, else Tolerance if it is below the number of values, else Full."""
+    count, kept = leading(values, epsilon), rank(values, epsilon, cap)
+    if count < 1: return "Floor"
+    if kept < count: return "Cap"
+    return "Tolerance" if kept < len(values) else "Full"
+
+def done(why):
+    """The answer of a gate that is accepted for this reason."""
+    return 1, 1 + REASONS.index(why)
+
+# the answer of an accepted gate, whatever its reason
+DONE = (1,)
 
 # ---------------------------------------------------------------- a record, as 328 words
 class Record:
@@ -112,6 +141,15 @@ class Reader:
             out.extend(array("Q", [w]) * count)
         return out
 
+# what the oracle writes of a call (oracle_calls.rs); again, values and kept are of the cut that it stored last
+Told = collections.namedtuple("Told", "answer record sites env stored retries again values kept")
+
+def told(o):
+    answer, record = o.words(2), o.words(328)
+    sites = [(o.words(1)[0], o.numbers()) for _ in range(o.words(1)[0])]
+    env, cuts, values, (kept,) = o.numbers(), o.words(3), o.numbers(), o.words(1)
+    return Told(answer, record, sites, env, *cuts, array("d", values.tobytes()), kept)
+
 class Difference(Exception):
     pass
 
@@ -129,7 +167,26 @@ def zero(n):
     return zeros[n]
 
 def answer_name(tag, value):
-    return {0: f"refused by {value}", 1: "done", 2: "kept", 3: "nothing", 4: f"bit {value}", 5: "dimension"}[tag]
+    why = f", {REASONS[value - 1]}" if tag == 1 and value else ""
+    return {0: f"refused by {value}", 1: "done" + why, 2: "kept", 3: "nothing", 4: f"bit {value}", 5: "dimension"}[tag]
+
+def pair_of(rec, args):
+    """The sites of a gate's two qubits, the left one first."""
+    return sorted((rec[133 + args[0]], rec[133 + args[1]]))
+
+def wanted(kind, args, before, o):
+    """The answer that the port has to give: the oracle's, and of an accepted gate the reason of the cut that it stored last."""
+    if kind not in (GATE, NAMED):
+        same("the oracle's cuts", o.stored, 0)
+        return o.answer
+    epsilon, cap = float_of(before[3]), before[1]
+    if o.stored: same("the oracle's last cut: rank", o.kept, rank(o.values, epsilon, cap))
+    if o.answer[0] == 0: return o.answer
+    p, q = pair_of(before, args)
+    same("the oracle's cuts", o.stored, q - p)
+    same("the oracle's last cut: bond", o.kept, o.record[69 + p])
+    same("the oracle's last cut: number of values", len(o.values), 2 * min(o.record[5 + p], o.record[69 + p + 1]))
+    return list(done(reason(o.values, epsilon, cap)))
 
 def check_case(case, port, oracle, tally):
     """Raises Difference. port and oracle are Readers."""
@@ -153,18 +210,16 @@ def check_case(case, port, oracle, tally):
             except EOFError:
                 raise Difference("the port ended early")
             try:
-                o_answer = oracle.words(2)
-                o_rec = oracle.words(328)
-                sites = [(oracle.words(1)[0], oracle.numbers()) for _ in range(oracle.words(1)[0])]
-                env = oracle.numbers()
+                o = told(oracle)
             except EOFError:
                 raise Difference("the oracle ended early")
-            same("answer", answer, o_answer)
+            sites, env = o.sites, o.env
+            same("answer", answer, wanted(kind, args, rec, o))
             if expect is not None:
-                same("answer expected by document 01", answer, list(expect))
+                same("answer expected by the papers", answer[: len(expect)], list(expect))
             tag, value = answer
             early = tag == 0 and value <= 5
-            same("record", p_rec, o_rec)
+            same("record", p_rec, o.record)
             walk = kind in (LEFT, RIGHT)
             if early or walk:
                 same("record unaltered", p_rec, ZERO_RECORD if kind == START else rec)
@@ -203,21 +258,22 @@ def check_case(case, port, oracle, tally):
                         tally["walks whose middle bond exceeds the last"] += 1
             else:
                 same("result unaltered", p_out, out)
-            note(tally, kind, args, answer, rec, p_rec, sites)
+            note(tally, kind, args, answer, rec, p_rec, o)
         except Difference as e:
             raise Difference(f"{at}: {e}") from None
         rec, store, work, out = p_rec, p_store, p_work, p_out
     if port.at != len(port.w):
         raise Difference("the port wrote more than was asked")
 
-def note(tally, kind, args, answer, before, after, sites):
+def note(tally, kind, args, answer, before, after, o):
     """What the case has shown."""
-    tag, value = answer
+    (tag, value), sites = answer, o.sites
     tally["calls"] += 1
     tally[f"{KINDS[kind]}: {answer_name(tag, value)}"] += 1
     if kind in (GATE, NAMED) and (tag == 1 or value in (6, 7)):
         n, d, eps, high = before[0], before[1], before[3], before[326]
-        p, q = sorted((before[133 + args[0]], before[133 + args[1]]))
+        p, q = pair_of(before, args)
+        if tag == 1: note_reason(tally, REASONS[value - 1], q - p > 1, o)
         if q - p > 1:
             tally["routed gates"] += 1
             if tag == 0 and before[197:261] != after[197:261]:
@@ -254,6 +310,15 @@ def note(tally, kind, args, answer, before, after, sites):
     widest = max(after[5:69])
     if kind in (GATE, NAMED) and tag == 1:
         tally[f"gates with a widest bond of {'1' if widest == 1 else '2 to 4' if widest <= 4 else '5 to 16' if widest <= 16 else 'more than 16'}"] += 1
+
+def note_reason(tally, why, routed, o):
+    """An accepted gate's reason, alone and with what else there was."""
+    tally[f"accepted gates: {why}"] += 1
+    if routed: tally[f"accepted gates, routed: {why}"] += 1
+    if o.retries: tally[f"accepted gates, a cut made again: {why}"] += 1
+    if o.again: tally[f"accepted gates, the last cut made again: {why}"] += 1
+    if o.again and routed: tally[f"accepted gates, routed, the last cut made again: {why}"] += 1
+    if o.values[0] == INF: tally[f"accepted gates, an infinite value: {why}"] += 1
 
 def note_wide(tally, bonds, above, how):
     """A cut of neighbours: left, middle and right bond, and the middle one after it. 0 where it is not known."""
@@ -776,7 +841,7 @@ def edges(t):
             rec.center = 1
             c = Case("edges", f"workspace {bl} {mid} {br} exponent {exponent}")
             c.record(rec); c.numbers(STORE, sites(t, rec, "gauss")); c.numbers(WORK, t.work(work_room(d))); c.numbers(OUT, [])
-            c.call(NAMED, 1, 2, 1, expect=None if (bl, mid) == (2, 44) else (1, 0) if exponent == e else (0, 6))
+            c.call(NAMED, 1, 2, 1, expect=None if (bl, mid) == (2, 44) else DONE if exponent == e else (0, 6))
             cases.append(c)
     # the draw at the share of bit 1
     for amp in (0.5, 1.0, 0.3):
@@ -799,10 +864,64 @@ def edges(t):
             cases.append(c)
     return cases
 
+def skewed(t, rec, hit, factors):
+    """A store of plain numbers times a factor for each site. The second number of bond `hit` is small on its left and large on
+    its right, so that a cut beside that bond finds other values without a centre than with one."""
+    out = []
+    for k in range(rec.n):
+        for a, _, b, _ in itertools.product(range(rec.bl[k]), range(2), range(rec.br[k]), range(2)):
+            skew = (0.01 if (k, b) == (hit, 1) else 1.0) * (100.0 if (k, a) == (hit + 1, 1) else 1.0)
+            out.append(bits(t.small() * factors[k] * skew))
+        out += t.rest(4 * rec.d * rec.d - 4 * rec.bl[k] * rec.br[k])
+    return out
+
+def reasons(t, count):
+    """Each reason on a fresh chain, without swaps before it and with them; then chains without a centre, many of whose cuts are
+    made again with one. Such a cut has no more values than the cap by then, so its own reason is never Cap, but that of the
+    gate after a swap can be."""
+    cases = []
+    diagonal = lambda values: t.gate_words([{0: values[0], 12: values[1]}.get(k, 0) for k in range(16)])
+    for eps, d, values, why in [(0.0, 1, (1, 1), "Cap"), (0.5, 1, (1, 0.6), "Cap"), (0.0, 1, (1, 0), "Tolerance"), (0.0, 3, (1, 0), "Tolerance"),
+                                (0.5, 1, (1, 0.5), "Tolerance"), (0.5, 2, (1, 0.5), "Tolerance"), (0.0, 2, (1, 1), "Full"), (0.5, 2, (1, 0.6), "Full"),
+                                (0.0, 3, (1, 1e-30), "Full"), (0.0, 1, (0, 0), "Floor"), (0.5, 3, (0, 0), "Floor"), (0.0, 2, (1e-170, 0), "Floor"),
+                                (0.0, 1, (1e200, 1), "Floor"), (0.0, 2, (1e200, 1e200), "Floor"), (0.5, 2, (1e200, 1), "Floor")]:
+        for n in (2, 3, 5):
+            c = Case("reasons", f"values {values} epsilon {eps} D {d} n {n}")
+            lend(c, t, n, d)
+            c.call(START, n, d, bits(eps), 0, 63, expect=(1, 0))
+            c.call(GATE, *t.r.sample([0, n - 1], 2), *diagonal(values), expect=done(why))
+            cases.append(c)
+    # what a centre brings to the pair from the sites beside it: 1, 0, or more than a square can hold
+    for factors, why in [([1.0] * 4, "Tolerance"), ([1.0, 1.0, 1.0, 0.0], "Floor"), ([1e40] * 4, "Floor")]:
+        for pair in [(0, 1), (1, 0), (0, 2), (2, 0)]:
+            rec = Record(4, 2, 63, 0.5)
+            c = Case("reasons", f"made again on {pair}, factors {factors}")
+            c.record(rec); c.numbers(WORK, t.work(work_room(2))); c.numbers(OUT, [])
+            c.numbers(STORE, [w for x in factors for w in [bits(x), 0, 0, 0] + t.rest(12)])
+            c.call(GATE, *pair, *diagonal((1, 0.1)), expect=done(why))
+            cases.append(c)
+    for k in range(count):
+        r = t.r
+        n, d = r.randrange(4, 6), 2 if k % 4 == 3 else 4
+        rec = Record(n, d, 63, r.choice([0.03, 0.1, 0.3])).bonds([2] * (n - 2) + [1] if d == 2 else [r.choice([1, 2, 2, 2]) for _ in range(n - 1)])
+        rec.permute(r.sample(range(n), n))
+        # the sites as they are, one of them zeros, all of them large, and as they are
+        factors = [[1.0] * n, [float(s != k // 4 % n) for s in range(n)], [r.choice([1e35, 1e40, 1e75])] * n, [1.0] * n][k % 4]
+        c = Case("reasons", f"{k}: n {n} D {d} bonds {rec.br[:n]} epsilon {rec.epsilon} factors {factors}")
+        c.numbers(WORK, t.work(work_room(d))); c.numbers(OUT, [])
+        for _ in range(12):
+            c.record(rec)
+            c.numbers(STORE, skewed(t, rec, n - 3 if d == 2 else r.randrange(n - 1), factors))
+            a, b = r.sample(range(n), 2)
+            if r.random() < 0.2: c.call(NAMED, a, b, r.randrange(3))
+            else: c.call(GATE, a, b, *t.gate_words([z for row in t.unitary() for z in row]))
+        cases.append(c)
+    return cases
+
 def workspace(t, count):
     """Refused by 6: at the first cut nothing but work's first part is altered; after swaps these stand."""
     cases = []
-    for exponent, expect in [(4, (0, 6)), (0, (0, 6)), (5, (1, 0)), (64, (1, 0)), (255, (1, 0))]:
+    for exponent, expect in [(4, (0, 6)), (0, (0, 6)), (5, DONE), (64, DONE), (255, DONE)]:
         for d in (1, 2, 4):
             c = Case("workspace", f"n 2 D {d} exponent {exponent}, fresh")
             lend(c, t, 2, d)
@@ -1014,15 +1133,15 @@ def marked(t):
         cases.append(c)
         return c
     c = case("E, D 2: bond 2, Kept 0.5", 2, 2, 5)
-    c.call(GATE, 0, 1, *t.gate_words(e), expect=(1, 0)); c.call(PROJECT, 0, 1, expect=(2, bits(0.5)))
+    c.call(GATE, 0, 1, *t.gate_words(e), expect=done("Full")); c.call(PROJECT, 0, 1, expect=(2, bits(0.5)))
     c = case("E, D 1: bond 1, discarded 0.5", 2, 1, 5)
-    c.call(GATE, 0, 1, *t.gate_words(e), expect=(1, 0))
+    c.call(GATE, 0, 1, *t.gate_words(e), expect=done("Cap"))
     c = case("n 3 D 2 exponent 5: E on (1,2), Cx on (0,2): 6", 3, 2, 5)
-    c.call(GATE, 1, 2, *t.gate_words(e), expect=(1, 0)); c.call(NAMED, 0, 2, 1, expect=(0, 6))
+    c.call(GATE, 1, 2, *t.gate_words(e), expect=done("Full")); c.call(NAMED, 0, 2, 1, expect=(0, 6))
     c = case("n 4, pair (0,3)", 4, 2, 5)
-    c.call(NAMED, 0, 3, 1, expect=(1, 0))
+    c.call(NAMED, 0, 3, 1, expect=done("Tolerance"))
     c = case("the whole run record", 2, 2, 5)
-    c.call(NAMED, 0, 1, 1, expect=(1, 0)); c.call(PROJECT, 0, 0, expect=(2, bits(1.0)))
+    c.call(NAMED, 0, 1, 1, expect=done("Tolerance")); c.call(PROJECT, 0, 0, expect=(2, bits(1.0)))
     return cases
 
 # ---------------------------------------------------------------- the run
@@ -1038,6 +1157,7 @@ def categories(scale, full):
     return {
         "run cases": marked, "starts": lambda t: starts(t, k(20)), "streams": lambda t: streams(t, k(400)),
         "records": lambda t: records(t, k(180)), "environments": lambda t: environments(t, k(60)), "weights": lambda t: weights(t, k(60)), "edges": edges,
+        "reasons": lambda t: reasons(t, k(160)),
         "workspace": lambda t: workspace(t, k(60)), "not a number": lambda t: not_a_number(t, k(80)), "short slices": short_slices,
         "unsound records": lambda t: unsound(t, k(25)), "perturbed records": lambda t: perturbed(t, k(40)), "high water": lambda t: high_water(t, k(50)),
         "middle": lambda t: middle(t, k(150 if full else 12)), "wide": lambda t: wide(t, full),

@@ -135,13 +135,10 @@ class Exports:
             records += struct.pack("<HHBB32Q", 260, 2, *pair, *gate)
         o = compare.Reader(compare.run(oracle, c.bytes()).stdout)
         for _ in range(21):
-            o.words(2)
-            record = o.words(328)
-            sites = [(o.words(1), o.numbers())[1] for _ in range(o.words(1)[0])]
-            o.numbers()
-        store = [w for site in sites for w in [*site, *[0] * (4 * d * d - len(site))]]
+            last = compare.told(o)
+        store = [w for _, site in last.sites for w in [*site, *[0] * (4 * d * d - len(site))]]
         self.data += self.ask(3, n, d, compare.bits(epsilon), compare.bits(clamp), 20) + records
-        self.want += [record[327], *compare.runs(store + [0] * (512 - len(store))), *compare.runs([0] * 1344)]
+        self.want += [last.record[327], *compare.runs(store + [0] * (512 - len(store))), *compare.runs([0] * 1344)]
 
     def differ(self, program):
         return ran([program], self.data, 60) != (0, self.ask(*self.want))

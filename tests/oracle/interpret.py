@@ -17,7 +17,7 @@ def drawn():
     t = compare.Draw("interpreter")
     out = compare.marked(t)
     for cases, count in ((compare.edges(t), 25), (compare.weights(t, 10), 12), (compare.streams(t, 120), 12), (compare.records(t, 60), 6),
-                         (compare.not_a_number(t, 30), 4), (compare.workspace(t, 5), 6)):
+                         (compare.not_a_number(t, 30), 4), (compare.workspace(t, 5), 6), (compare.reasons(t, 12), 24)):
         some = [c for c in cases if fits(c)]
         out += t.r.sample(some, min(count, len(some)))
     return out

@@ -1,10 +1,12 @@
 //! Reads the words that the harness over the port reads (its own text says which), makes the same calls on the
 //! extracted Rust, and writes after each call: answer, record, then of each site whether the call rewrote it and
-//! its numbers, then the environment that the call wrote. Refusals 3, 2, 4 and 5 are document 01's, tried in that order.
+//! its numbers, then the environment that the call wrote, then of its cuts how many it stored, how many it made again, and
+//! of the last stored one whether it was made again, its values and how many of them it keeps (0, no values and 0 where
+//! there is none). Refusals 3, 2, 4 and 5 are document 01's, tried in that order.
 use num_complex::Complex64;
 use oracle::gates::Gate;
 use oracle::mps::access::{Answer, Chain, Gate4, Lent, State};
-use oracle::surround::NanSingularValue;
+use oracle::surround::{Cuts, NanSingularValue, begin_cuts, take_cuts};
 use std::io::{Read, Write};
 
 struct Words {
@@ -146,7 +148,10 @@ impl Out {
         self.number(r.discarded);
     }
     fn complexes(&mut self, v: &[Complex64]) {
-        let w: Vec<u64> = v.iter().flat_map(|z| [bits(z.re), bits(z.im)]).collect();
+        self.numbers(&v.iter().flat_map(|z| [z.re, z.im]).collect::<Vec<_>>());
+    }
+    fn numbers(&mut self, v: &[f64]) {
+        let w: Vec<u64> = v.iter().map(|&x| bits(x)).collect();
         self.word(w.len() as u64);
         let mut at = 0;
         while at < w.len() {
@@ -156,19 +161,27 @@ impl Out {
             at += n;
         }
     }
+    fn cuts(&mut self, c: &Cuts) {
+        self.word(c.stored as u64);
+        self.word(c.retries as u64);
+        self.word(c.again as u64);
+        self.numbers(&c.values);
+        self.word(c.kept as u64);
+    }
 }
 fn bits(x: f64) -> u64 {
     if x.is_nan() { 0x7ff8_0000_0000_0000 } else { x.to_bits() }
 }
 
-/// What one call gives: the answer's two words, the sites that it rewrote, the environment.
+/// What one call gives: the answer's two words, the sites that it rewrote, the environment, its cuts.
 struct Given {
     answer: (u64, u64),
     rewritten: Vec<bool>,
     env: Vec<Complex64>,
+    cuts: Cuts,
 }
 fn refused(k: u64) -> Given {
-    Given { answer: (0, k), rewritten: Vec::new(), env: Vec::new() }
+    Given { answer: (0, k), rewritten: Vec::new(), env: Vec::new(), cuts: Cuts::default() }
 }
 
 enum Call {
@@ -227,11 +240,13 @@ fn run(c: &mut Chain, call: &Call) -> (Answer, Vec<Complex64>) {
 fn made(c: &mut Chain, call: &Call) -> Given {
     let before = c.copy();
     let mut marked = c.copy();
+    begin_cuts();
     let (a, env) = run(c, call);
+    let cuts = take_cuts();
     if matches!(call, Call::Left(..) | Call::Right(..)) {
         return match a {
             Answer::Refused(k) => refused(k as u64),
-            _ => Given { answer: (5, (env.len() as f64).sqrt() as u64), rewritten: vec![false; c.bonds().len()], env },
+            _ => Given { answer: (5, (env.len() as f64).sqrt() as u64), rewritten: vec![false; c.bonds().len()], env, cuts },
         };
     }
     marked.mark();
@@ -264,7 +279,7 @@ fn made(c: &mut Chain, call: &Call) -> Given {
             }
         }
     }
-    Given { answer, rewritten, env }
+    Given { answer, rewritten, env, cuts }
 }
 
 fn main() {
@@ -313,7 +328,7 @@ fn main() {
                     Ok(c) => {
                         record = Record::of(&c);
                         chain = Some(c);
-                        Given { answer: (1, 0), rewritten: vec![true; n], env: Vec::new() }
+                        Given { answer: (1, 0), rewritten: vec![true; n], env: Vec::new(), cuts: Cuts::default() }
                     }
                     Err(k) => {
                         record = Record::zero();
@@ -354,6 +369,7 @@ fn main() {
             None => out.word(0),
         }
         out.complexes(&given.env);
+        out.cuts(&given.cuts);
     }
     std::io::stdout().write_all(&out.0).unwrap();
 }
