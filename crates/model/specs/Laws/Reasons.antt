@@ -179,7 +179,7 @@ module _ (s : State) (work : List Float) (q0 q1 : ℕ) (g : List (List Complex))
       run-reasons swaps (gateStep (turned g route) (route .near)) s (x .sound) (x .inside) done ∙ ap (λ (rs : List Reason). reasonsOf swaps s ++ rs) (sym told)
 
   tells-reason : TellsReason s q0 q1 g a
-  tells-reason = record { accepted = λ z. (reasonsOf swaps s, tells z); refused = told-refused (a .answer) }
+  tells-reason = record { number = told-number (a .answer); accepted = λ z. (reasonsOf swaps s, tells z); refused = told-refused (a .answer) }
 
 pub gate-reasons : GateReasons
 unfolding namedGateCall

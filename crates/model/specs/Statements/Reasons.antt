@@ -19,7 +19,7 @@ use Rattle.model.specs.Slots.{State}
 use Rattle.model.specs.Truncation.{rank, rankReason}
 use Rattle.model.specs.Cut.{reasonOf}
 use Rattle.model.specs.Routing.{Step, stepped}
-use Rattle.model.specs.Answers.{toldApplied}
+use Rattle.model.specs.Answers.{viewApplied, toldApplied}
 use Rattle.model.specs.Calls.{After, gateCall, namedGateCall}
 use Rattle.model.specs.Statements.Table.{gateSteps}
 use Rattle.model.specs.Statements.Demand1Cuts.{cutSvd}
@@ -59,8 +59,9 @@ reasonsOf [] s = []
 reasonsOf (x ∷ xs) s =
     cond (eqb (stepped x s .refused) 0) (reasonOf s (cutSvd (x .gate) (x .site) s) ∷ reasonsOf xs (stepped x s .state)) []
 
--- an accepted gate tells the last of them, and a refused one its number only
+-- an accepted gate tells the last of them, and a refused one its number only; the number is the view's
 pub record TellsReason (s : State) (q0 q1 : ℕ) (g : List (List Complex)) (a : After Applied) : Type 0 where
+  pub number : toldApplied (a .answer) .number ≡ viewApplied (a .answer) .number
   pub accepted : toldApplied (a .answer) .number ≡ 0 → (before : List Reason) × (reasonsOf (gateSteps s q0 q1 g) s ≡ before ++ toldApplied (a .answer) .reason)
   pub refused : toldApplied (a .answer) .number ≢ 0 → toldApplied (a .answer) .reason ≡ []
 
