@@ -52,6 +52,9 @@ for folder in (shipped, rooted, bench):
     manifest = os.path.join(folder, "Cargo.toml")
     text = re.sub(r"\[\[bin\]\]\nname = .*\npath = .*\n", "", open(manifest).read())
     open(manifest, "w").write(text)
+    # what the oracle notes of its cuts is no part of what is timed
+    for noted in ("crate::surround::note_stored(singular_values, chi_kept);", "crate::surround::note_retry();"):
+        replaced(os.path.join(folder, "src", "mps", "mod.rs"), noted, "")
 for folder, size in ((shipped, "g_pq.norm()"), (rooted, "unsafe { crate::jondwave_norm(g_pq.re, g_pq.im) }")):
     replaced(os.path.join(folder, "Cargo.toml"), 'name = "oracle"', f'name = "{os.path.basename(folder)}"')
     replaced(os.path.join(folder, "src", "mps", "svd.rs"), SIZE, size)
