@@ -38,6 +38,7 @@ fn bell_pair(store: &mut [f64], work: &mut [f64]) -> Gated {
     apply_named_gate(chain, store, work, 0, 1, NamedGate::Cx)
 }
 
+// A word, on standard output.
 fn say(word: &[u8]) {
     io::write_all(1, word);
 }
