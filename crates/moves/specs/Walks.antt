@@ -1,13 +1,15 @@
 -- One turn of each walk, and none; a move, from what each of its parts leaves.
 use Prim.Native.Nat.{ℕ, suc, _+_, _-_, _*_, _≤_, _<_}
-use mathlib.Core.Path.{_≡_}
+use mathlib.Core.Path.{_≡_, sym, ap, _∙_}
 use mathlib.Core.Logic.{_⊎_, ⊎-elim}
+use native.Mathlib.Nat.{le-refl}
 use native.Mathlib.Omega.{arith}
 use borrow.Author.Tests.{le-leb, lt-leb}
 use Rattle.model.specs.declared.Center.{Center}
 use Rattle.model.specs.declared.Center.the-variants.{Unknown, At}
 use Rattle.model.specs.declared.WeightSide.the-variants.{Left, Right}
-use Rattle.model.specs.Slots.{State}
+use Rattle.model.specs.Chain.{withCenter}
+use Rattle.model.specs.Slots.{State, held}
 use Rattle.model.specs.Moves.{stepRight, stepLeft, walkRight, walkLeft, centered, moved, established, centeredOn, prepared, preparedOn}
 
 module _ (to at : ℕ) (s : State) where
@@ -52,6 +54,11 @@ module _ {A B : Type 0} (n far : ℕ) (l : 0 < n) (came : (A × (far ≡ n - 1))
   pub ends-within : (far < n) × (n - 1 - far < n)
   ends-within = let h = end-below in (omega arith, omega arith)
 
+-- to where the centre is: no step, and the centre set to what it is
+moved-none : (k : ℕ) (s : State) → s .chain .center ≡ At k → moved k k s ≡ s
+unfolding moved
+moved-none k s own = rw (right-done k k s (le-refl k), left-done k k s (le-refl k)) (ap (λ at. held (withCenter (s .chain) at) (s .store)) (sym own))
+
 -- where no centre is recorded, and where one is
 module _ (k : ℕ) (center : Center) where
   pub on-unknown : (s u : State) → center ≡ Unknown → u ≡ established k s → u ≡ centeredOn k center s
@@ -63,6 +70,9 @@ module _ (k : ℕ) (center : Center) where
   module _ (from : ℕ) (e : center ≡ At from) where
     pub on-centre : (s u : State) → u ≡ moved from k s → u ≡ centeredOn k center s
     on-centre s u eu = rw (e, eu)
+
+    pub on-own : (s : State) → s .chain .center ≡ center → from ≡ k → s ≡ centeredOn k center s
+    on-own s own o = rw (e, o) (sym (moved-none k s (own ∙ e ∙ ap At o)))
 
     pub prepared-right : from ≤ k → (s : State) → prepared Right (centeredOn k center s) ≡ preparedOn k center s
     prepared-right l s = rw (e, le-leb from k l)

@@ -288,7 +288,12 @@ pub fn center_on(chain: Chain, store: &mut [f64], work: &mut [f64], k: usize) ->
     let center = chain.center;
     match center {
         Center::Unknown => establish_center(chain, store, work, k),
-        Center::At(from) => move_center(chain, store, work, from, k),
+        Center::At(from) => if from == k {
+            // a routed gate's next swap finds the centre on its pair
+            chain
+        } else {
+            move_center(chain, store, work, from, k)
+        },
     }
 }
 
