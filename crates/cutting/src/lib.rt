@@ -150,7 +150,8 @@ pub fn kept_values(work: &[f64], d: Decomposed, epsilon: f64, max_bond_dim: usiz
     let n = s.wide;
     let end = 2 * (s.vals + n);
     let order = d.order;
-    let all = sorted_values(&work[..end], s.vals, n, order);
+    let mut all = [0.0; 256];
+    sorted_values(&work[..end], s.vals, order, &mut all[..n]);
     keep(&all[..n], epsilon, max_bond_dim)
 }
 

@@ -158,15 +158,13 @@ pub fn svd_jacobi(w: &mut [f64], high: usize, wide: usize, clamp: f64) -> Factor
     Factored { nan, order }
 }
 
-// The n values from base on, in an order of their columns; they are the first n of the answer.
-pub fn sorted_values(w: &[f64], base: usize, n: usize, order: [u8; 256]) -> [f64; 256]
-    requires { ⌜ (n ≤ 256) × (base + n ≤ count (now w)) × Below n order ⌝ }
-    ensures { λ r. ⌜ take n r ≡ tabulate n (λ g. at (now (w .entry)) (base + getD order g 0) .re) ⌝ }
+// The values from base on, as many as s has room for, into s in an order of their columns.
+pub fn sorted_values(w: &[f64], base: usize, order: [u8; 256], s: &mut [f64])
+    requires { ⌜ (length (now s) ≤ 256) × (base + length (now s) ≤ count (now w)) × Below (length (now s)) order ⌝ }
+    ensures { λ _. ⌜ now (s .exit) ≡ tabulate (length (now (s .entry))) (λ g. at (now (w .entry)) (base + getD order g 0) .re) ⌝ }
 {
-    let mut s = [0.0; 256];
-    for g in 0..n {
+    for g in 0..s.len() {
         let z = complex_at(w, base + order[g] as usize);
         s[g] = z.re;
     }
-    s
 }
