@@ -3,17 +3,12 @@ use Prim.Native.Nat.{ℕ, zero, suc}
 use native.Mathlib.Omega.{arith}
 use mathlib.Core.Path.{_≡_, refl, ap}
 use mathlib.Core.Bool.{Bool}
-use mathlib.Core.List.{List}
-use lib.Ieee.{Float}
-use Rattle.complex.specs.declared.Complex.{Complex}
-use Rattle.model.specs.declared.Chain.{Chain}
 use Rattle.model.specs.declared.Applied.{Applied}
 use Rattle.model.specs.declared.Applied.the-variants as applied
 use Rattle.model.specs.declared.Reason.{Reason}
-use Rattle.model.specs.Slots.{State, held}
-use Rattle.model.specs.Cut.{Tried, attempt, Ran, ran, attemptReason}
+use Rattle.model.specs.Slots.{State}
+use Rattle.model.specs.Cut.{Tried, Ran, ran}
 use Rattle.model.specs.Calls.{appliedOf}
-use Rattle.cuts.specs.declared.Cut.{Cut}
 
 pub record Answered : Type 0 where
   pub answer : Applied
@@ -53,13 +48,7 @@ module _ (reason : Reason) where
 abbrev pub ranOf : Tried → Ran
 ranOf t = ran (t .refused) (t .state)
 
-abbrev pub attemptBy : List (List Complex) → ℕ → State → Answered
-attemptBy gate k s = answeredBy (attemptReason gate k s) (ranOf (attempt gate k s))
-
-abbrev pub cutOf : Applied → Bool → Chain → Cut
-cutOf a again c = record { answer = a; again = again; chain = c }
-
--- c and the store are what the attempt t leaves, its values having this reason
-pub record Leaves (c : Cut) (store : List Float) (reason : Reason) (t : Tried) : Type 0 where
-  pub answers : answered (c .answer) (held (c .chain) store) ≡ answeredBy reason (ranOf t)
-  pub again : c .again ≡ t .again
+-- an answer, whether the cut is to be made again, and a state are what the attempt t leaves, its values having this reason
+pub record Leaves (a : Applied) (again : Bool) (s : State) (reason : Reason) (t : Tried) : Type 0 where
+  pub answers : answered a s ≡ answeredBy reason (ranOf t)
+  pub repeated : again ≡ t .again

@@ -17,7 +17,7 @@ use moves::prepare_center;
 use pair::Bonds;
 use truncation::Share;
 ghost use mathlib.Core.Path.{_≡_};
-ghost use mathlib.Core.Bool.{true, _||_, cond};
+ghost use mathlib.Core.Bool.{true, false, _&&_, _||_, cond};
 ghost use Prim.Native.Nat.{_+_, _^_, _<_, _≤_};
 ghost use lib.Dec.{ltb};
 ghost use Rattle.model.specs.Slots.{held, slotOf, withSite};
@@ -31,7 +31,9 @@ ghost use Rattle.cutting.specs.Shape.{shapeOf, standing, Stands, Made};
 ghost use Rattle.moves.specs.Ready.{Ready};
 ghost use Rattle.moves.specs.Steps.{Pair};
 ghost use Rattle.cuts.specs.Pair.{bondsAt, pairBonds, Bytes, SlotsOf, recordedCut};
-ghost use Rattle.cuts.specs.Answered.{answered, answeredBy, attemptBy, Leaves};
+ghost use Rattle.model.specs.declared.Chain.{Chain};
+ghost use Rattle.cuts.specs.Answered.{answered, answeredBy, Leaves};
+ghost use Rattle.cuts.specs.Attempts.{GoesBy, recordedBy, preparedBy};
 
 // A byte as a machine word.
 pub fn wide(x: u8) -> usize
@@ -217,43 +219,52 @@ fn record_cut(chain: Chain, k: usize, chi: usize, share: Share, weight: Weight) 
     out
 }
 
-// What an attempt leaves: its answer; whether it is to be made again with a centre, and stored nothing; the chain.
+// What a cut of two sites leaves beside them: its answer; whether it is to be made again with a centre, and whether it is
+// stored; and what it kept.
 struct Cut {
-    pub answer: Applied,
-    pub again: bool,
-    pub chain: Chain,
+    answer: Applied,
+    again: bool,
+    stored: bool,
+    chi: usize,
+    share: Share,
 }
 
-// The cut of the pair as it stands.
+// The cut of the sites k and k + 1 as they stand. It takes of the record only what it goes by, so that none is copied here.
 fn cut_pair(
-    chain: Chain,
     store: &mut [f64],
     work: &mut [f64],
     gate: [[Complex; 4]; 4],
+    d: usize,
+    epsilon: f64,
+    clamp: f64,
     k: usize,
     bonds: Bonds,
     weight: Weight,
 ) -> Cut
-    requires { ⌜ Ready chain (now store) (now work) ⌝ }
-    requires { ⌜ (k + 1 < chain .«num_qubits») × (bonds ≡ pairBonds chain k) ⌝ }
-    ensures { λ r. ⌜ Leaves r (now (store .exit)) (reasonIn gate k (held chain (now (store .entry)))) (cutWith gate k (weight .maintained) (prepared (weight .side) (held chain (now (store .entry))))) ⌝ }
+    requires { ⌜ (1 ≤ d) × Pair d k (bonds .left) (bonds .mid) (bonds .right) (now store) (now work) ⌝ }
+    ensures { λ r. ⌜ (r .chi ≤ d) × (r .again && r .stored ≡ false) ⌝ }
+    ensures { λ r. ⌜ ((c : Chain) → GoesBy d epsilon clamp k bonds c → Leaves (r .answer) (r .again) (held (recordedBy c k weight r) (now (store .exit))) (reasonIn gate k (held c (now (store .entry)))) (cutWith gate k (weight .maintained) (prepared (weight .side) (held c (now (store .entry)))))) ⌝ }
 {
-    let d = chain.max_bond_dim;
-    let f = decompose_pair(store, work, gate, d, k, bonds, chain.norm_clamp_min);
+    let f = decompose_pair(store, work, gate, d, k, bonds, clamp);
     if f.nan {
         return Cut {
             answer: Applied::Refused(7),
             again: false,
-            chain,
+            stored: false,
+            chi: 0,
+            share: Share::Nothing,
         };
     }
-    let kept = kept_values(work, f, chain.svd_epsilon, d);
+    let kept = kept_values(work, f, epsilon, d);
     let reason = kept.reason;
+    let share = kept.share;
     if !weight.maintained & kept.resolvable {
         return Cut {
             answer: Applied::Done(reason),
             again: true,
-            chain,
+            stored: false,
+            chi: kept.chi,
+            share,
         };
     }
     let after = Bonds {
@@ -263,12 +274,55 @@ fn cut_pair(
     };
     let side = weight.side;
     store_pair(store, work, f, side, d, k, after);
-    let share = kept.share;
     Cut {
         answer: Applied::Done(reason),
         again: false,
-        chain: record_cut(chain, k, kept.chi, share, weight),
+        stored: true,
+        chi: kept.chi,
+        share,
     }
+}
+
+// What the cut leaves of a gate: its answer, and the record, as it was where the cut is not stored.
+fn conclude(chain: Chain, k: usize, cut: Cut, weight: Weight) -> Gated
+    requires { ⌜ (k < 63) × (cut .chi ≤ 128) ⌝ }
+    ensures { λ r. ⌜ (r .answer ≡ cut .answer) × (r .chain ≡ recordedBy chain k weight cut) ⌝ }
+{
+    let answer = cut.answer;
+    if cut.stored {
+        let share = cut.share;
+        Gated {
+            answer,
+            chain: record_cut(chain, k, cut.chi, share, weight),
+        }
+    } else {
+        Gated { answer, chain }
+    }
+}
+
+// The cut of a pair that the centre is on, which is left on the given side.
+fn cut_prepared(
+    chain: Chain,
+    store: &mut [f64],
+    work: &mut [f64],
+    gate: [[Complex; 4]; 4],
+    k: usize,
+    side: WeightSide,
+) -> Gated
+    requires { ⌜ Ready chain (now store) (now work) ⌝ }
+    requires { ⌜ k + 1 < chain .«num_qubits» ⌝ }
+    ensures { λ r. ⌜ answered (r .answer) (held (r .chain) (now (store .exit))) ≡ preparedBy gate k (prepared side (held chain (now (store .entry)))) ⌝ }
+{
+    let bonds = pair_bonds(&chain.bond_left, &chain.bond_right, k);
+    let weight = Weight {
+        side,
+        maintained: true,
+    };
+    let d = chain.max_bond_dim;
+    let epsilon = chain.svd_epsilon;
+    let clamp = chain.norm_clamp_min;
+    let cut = cut_pair(store, work, gate, d, epsilon, clamp, k, bonds, weight);
+    conclude(chain, k, cut, weight)
 }
 
 // The cut with the centre brought onto the pair first, which can narrow its bonds.
@@ -278,82 +332,20 @@ fn cut_centered(
     work: &mut [f64],
     gate: [[Complex; 4]; 4],
     k: usize,
-) -> Cut
+) -> Gated
     requires { ⌜ Ready chain (now store) (now work) ⌝ }
     requires { ⌜ (k + 1 < chain .«num_qubits») × (keepsCentre k (held chain (now store)) ≡ true) ⌝ }
-    ensures { λ r. ⌜ (let p = preparedOn k (chain .center) (held chain (now (store .entry))) in Leaves r (now (store .exit)) (reasonIn gate k (p .state)) (cutWith gate k true p)) ⌝ }
+    ensures { λ r. ⌜ answered (r .answer) (held (r .chain) (now (store .exit))) ≡ preparedBy gate k (preparedOn k (chain .center) (held chain (now (store .entry)))) ⌝ }
 {
     let p = prepare_center(chain, store, work, k);
     let ready = p.chain;
     let side = p.side;
-    let bonds = pair_bonds(&ready.bond_left, &ready.bond_right, k);
-    let weight = Weight {
-        side,
-        maintained: true,
-    };
-    cut_pair(ready, store, work, gate, k, bonds, weight)
+    cut_prepared(ready, store, work, gate, k, side)
 }
 
-// One attempt: refused by 6 above the workspace, else the cut, with a centre where one is kept.
-fn cut_adjacent_pair(
-    chain: Chain,
-    store: &mut [f64],
-    work: &mut [f64],
-    gate: [[Complex; 4]; 4],
-    k: usize,
-) -> Cut
-    requires { ⌜ Ready chain (now store) (now work) ⌝ }
-    requires { ⌜ k + 1 < chain .«num_qubits» ⌝ }
-    ensures { λ r. ⌜ (let s = held chain (now (store .entry)) in Leaves r (now (store .exit)) (attemptReason gate k s) (attempt gate k s)) ⌝ }
-{
-    let bonds = pair_bonds(&chain.bond_left, &chain.bond_right, k);
-    if workspace_exceeded(chain.workspace_exponent, bonds) {
-        return Cut {
-            answer: Applied::Refused(6),
-            again: false,
-            chain,
-        };
-    }
-    if keeps_center(chain, bonds) {
-        cut_centered(chain, store, work, gate, k)
-    } else {
-        let weight = Weight {
-            side: WeightSide::Right,
-            maintained: false,
-        };
-        cut_pair(chain, store, work, gate, k, bonds, weight)
-    }
-}
-
-// ---- a cut, made again at most once
-
-// What an attempt that is not made again leaves.
-fn gated(cut: Cut) -> Gated
-    ensures { λ r. ⌜ (r .answer ≡ cut .answer) × (r .chain ≡ cut .chain) ⌝ }
-{
-    let answer = cut.answer;
-    let chain = cut.chain;
-    Gated { answer, chain }
-}
-
-// The second attempt, after a centre is established.
-fn cut_again(
-    chain: Chain,
-    store: &mut [f64],
-    work: &mut [f64],
-    gate: [[Complex; 4]; 4],
-    k: usize,
-) -> Gated
-    requires { ⌜ Ready chain (now store) (now work) ⌝ }
-    requires { ⌜ k + 1 < chain .«num_qubits» ⌝ }
-    ensures { λ r. ⌜ answered (r .answer) (held (r .chain) (now (store .exit))) ≡ attemptBy gate k (established k (held chain (now (store .entry)))) ⌝ }
-{
-    let out = establish_center(chain, store, work, k);
-    let second = cut_adjacent_pair(out, store, work, gate, k);
-    gated(second)
-}
-
-// A gate on the sites k and k + 1: the cut, and where weight would be lost without a centre, the cut again with one.
+// A gate on the sites k and k + 1: refused by 6 above the workspace; else the cut, with a centre where one is kept. Where
+// weight would be lost without one, a centre is established and the cut made again; no bond is wider then, so 6 is not
+// asked again.
 pub fn apply_adjacent_two_qubit(
     chain: Chain,
     store: &mut [f64],
@@ -365,11 +357,27 @@ pub fn apply_adjacent_two_qubit(
     requires { ⌜ k + 1 < chain .«num_qubits» ⌝ }
     ensures { λ r. ⌜ (let s = held chain (now (store .entry)) in answered (r .answer) (held (r .chain) (now (store .exit))) ≡ answeredBy (adjacentReason gate k s) (adjacent gate k s)) ⌝ }
 {
-    let first = cut_adjacent_pair(chain, store, work, gate, k);
-    if first.again {
-        let found = first.chain;
-        cut_again(found, store, work, gate, k)
-    } else {
-        gated(first)
+    let bonds = pair_bonds(&chain.bond_left, &chain.bond_right, k);
+    if workspace_exceeded(chain.workspace_exponent, bonds) {
+        return Gated {
+            answer: Applied::Refused(6),
+            chain,
+        };
     }
+    if keeps_center(chain, bonds) {
+        return cut_centered(chain, store, work, gate, k);
+    }
+    let weight = Weight {
+        side: WeightSide::Right,
+        maintained: false,
+    };
+    let d = chain.max_bond_dim;
+    let epsilon = chain.svd_epsilon;
+    let clamp = chain.norm_clamp_min;
+    let cut = cut_pair(store, work, gate, d, epsilon, clamp, k, bonds, weight);
+    if !cut.again {
+        return conclude(chain, k, cut, weight);
+    }
+    let found = establish_center(chain, store, work, k);
+    cut_prepared(found, store, work, gate, k, WeightSide::Right)
 }

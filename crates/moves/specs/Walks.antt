@@ -2,15 +2,14 @@
 use Prim.Native.Nat.{ℕ, suc, _+_, _-_, _*_, _≤_, _<_}
 use mathlib.Core.Path.{_≡_, sym, ap, _∙_}
 use mathlib.Core.Logic.{_⊎_, ⊎-elim}
-use native.Mathlib.Nat.{le-refl}
 use native.Mathlib.Omega.{arith}
 use borrow.Author.Tests.{le-leb, lt-leb}
 use Rattle.model.specs.declared.Center.{Center}
 use Rattle.model.specs.declared.Center.the-variants.{Unknown, At}
 use Rattle.model.specs.declared.WeightSide.the-variants.{Left, Right}
-use Rattle.model.specs.Chain.{withCenter}
-use Rattle.model.specs.Slots.{State, held}
+use Rattle.model.specs.Slots.{State}
 use Rattle.model.specs.Moves.{stepRight, stepLeft, walkRight, walkLeft, centered, moved, established, centeredOn, prepared, preparedOn}
+use Rattle.model.specs.Laws.MoveLaws.{moved-still}
 
 module _ (to at : ℕ) (s : State) where
   pub right-turn : at < to → walkRight (to - at) at s ≡ walkRight (to - (at + 1)) (at + 1) (stepRight at s)
@@ -54,11 +53,6 @@ module _ {A B : Type 0} (n far : ℕ) (l : 0 < n) (came : (A × (far ≡ n - 1))
   pub ends-within : (far < n) × (n - 1 - far < n)
   ends-within = let h = end-below in (omega arith, omega arith)
 
--- to where the centre is: no step, and the centre set to what it is
-moved-none : (k : ℕ) (s : State) → s .chain .center ≡ At k → moved k k s ≡ s
-unfolding moved
-moved-none k s own = rw (right-done k k s (le-refl k), left-done k k s (le-refl k)) (ap (λ at. held (withCenter (s .chain) at) (s .store)) (sym own))
-
 -- where no centre is recorded, and where one is
 module _ (k : ℕ) (center : Center) where
   pub on-unknown : (s u : State) → center ≡ Unknown → u ≡ established k s → u ≡ centeredOn k center s
@@ -72,7 +66,7 @@ module _ (k : ℕ) (center : Center) where
     on-centre s u eu = rw (e, eu)
 
     pub on-own : (s : State) → s .chain .center ≡ center → from ≡ k → s ≡ centeredOn k center s
-    on-own s own o = rw (e, o) (sym (moved-none k s (own ∙ e ∙ ap At o)))
+    on-own s own o = rw (e, o) (sym (moved-still k s (own ∙ e ∙ ap At o)))
 
     pub prepared-right : from ≤ k → (s : State) → prepared Right (centeredOn k center s) ≡ preparedOn k center s
     prepared-right l s = rw (e, le-leb from k l)

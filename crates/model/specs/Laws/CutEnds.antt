@@ -14,17 +14,16 @@ use Rattle.model.specs.declared.Center.the-variants.{Unknown, At}
 use Rattle.model.specs.declared.Reason.{Reason}
 use Rattle.model.specs.declared.WeightSide.{WeightSide}
 use Rattle.model.specs.declared.WeightSide.the-variants.{Left, Right}
-use Rattle.model.specs.Chain.{withCenter}
-use Rattle.model.specs.Slots.{State, held, lefts, rights}
+use Rattle.model.specs.Slots.{State, lefts, rights}
 use Rattle.model.specs.Svd.{Svd, values, rawValue, anyNan}
 use Rattle.model.specs.Truncation.{rankReason, resolvable, workspace}
-use Rattle.model.specs.Moves.{walkRight, walkLeft, centered, moved, established, Prepared, prepared, preparedOn}
+use Rattle.model.specs.Moves.{moved, established, Prepared, prepared, preparedOn}
 use Rattle.model.specs.Cut.{known, canLose, Tried, tried, Ran, ran, concluded, cutStored, cutWith, attempt, adjacent, keepsCentre, preparedFor, pairOf, rankOf, reasonOf, reasonIn, attemptReason, adjacentReason}
 use Rattle.model.specs.Routing.{Step, follow, stepped, runSteps}
 use Rattle.model.specs.Statements.Table.{AboveWorkspace, mostValues, KeepsCentre, SomeNan, Resolvable, MadeAgain, DecomposedIn, NanIn}
 use Rattle.model.specs.Statements.Pinned.{madeAgain, lastIn, LastIn}
 use Rattle.model.specs.Statements.Soundness.{Sound}
-use Rattle.model.specs.Laws.MoveLaws.{lastSite, Narrowed, narrowed-none, established-centre, established-narrowed}
+use Rattle.model.specs.Laws.MoveLaws.{lastSite, Narrowed, narrowed-none, moved-still, established-centre, established-narrowed}
 use Rattle.model.specs.Laws.SoundKept.{relabelledBy, prepared-narrowed}
 use Rattle.model.specs.Laws.Tests.{Decides, decides-below, decides-nans, decides-false, test-true, test-false}
 use Rattle.model.specs.Laws.PinnedProof.{decides-keeps, first-in, decides-resolvable, decides-again, last-in}
@@ -36,13 +35,7 @@ pub unprepared : (k : ℕ) (s : State) → keepsCentre k s ≡ false → prepare
 unprepared k s e = rw e
 
 -- so it is where a centre was just established, which lies on the pair
-moved-still : (k : ℕ) (s : State) → s .chain .center ≡ At k → moved k k s ≡ s
-unfolding moved walkLeft walkRight
-moved-still k s e =
-    let z : k - k ≡ 0 = omega arith in
-    ap (λ (n : ℕ). centered k (walkLeft n k (walkRight n k s))) z ∙ ap (λ (at : Center). held (withCenter (s .chain) at) (s .store)) (sym e)
-
-established-prepared : (k : ℕ) (s : State) → preparedFor k (established k s) ≡ prepared Right (established k s)
+pub established-prepared : (k : ℕ) (s : State) → preparedFor k (established k s) ≡ prepared Right (established k s)
 established-prepared k s =
     let t = established k s in
     let e = established-centre k s in

@@ -1,6 +1,6 @@
 -- What a move of the centre leaves as it was: no bond grows, only the bonds and the slots between its two ends change, and of the record nothing else but the centre.
 use Prim.Native.Nat.{ℕ, zero, suc, _+_, _-_, _*_, _≤_, _<_, min, max}
-use mathlib.Core.Path.{_≡_, refl, _∙_}
+use mathlib.Core.Path.{_≡_, refl, sym, ap, _∙_}
 use mathlib.Core.Logic.{⊎-elim, _⊎_, inl, inr}
 use mathlib.Core.List.{List}
 use native.Mathlib.Nat.{mul-le-mul, mul-le-mul-right}
@@ -17,10 +17,10 @@ use Rattle.model.specs.declared.Center.{Center}
 use Rattle.model.specs.declared.Center.the-variants.{Unknown, At}
 use Rattle.model.specs.declared.Chain.{Chain}
 use Rattle.model.specs.Chain.{bondLeft, bondRight, withCenter, withBond}
-use Rattle.model.specs.Slots.{State, lefts, rights, siteAt, slotRoom, storeRoom, slotOf, filled, withSite}
+use Rattle.model.specs.Slots.{State, held, lefts, rights, siteAt, slotRoom, storeRoom, slotOf, filled, withSite}
 use Rattle.model.specs.Qr.{Kept, qr}
 use Rattle.model.specs.Pair.{isometrySite, vtSite}
-use Rattle.model.specs.Moves.{rightMatrix, leftMatrix, absorbedRight, absorbedLeft, stepRight, stepLeft, walkRight, walkLeft, moved, established, centeredOn, Prepared, preparedOn}
+use Rattle.model.specs.Moves.{rightMatrix, leftMatrix, absorbedRight, absorbedLeft, stepRight, stepLeft, walkRight, walkLeft, centered, moved, established, centeredOn, Prepared, preparedOn}
 use Rattle.model.specs.Cut.{keepsCentre, preparedFor}
 use Rattle.model.specs.Born.{readied}
 use Rattle.model.specs.Statements.Soundness.{Sound}
@@ -281,6 +281,13 @@ module _ (from to : ℕ) (s : State) where
         let first = walkRight-apart n d (to - from) from s h refl refl (omega arith) room in
         apart-then (min from to) (max from to) (omega arith) (omega arith) (omega arith) (omega arith) first
         (walkLeft-apart n d (from - to) from (walkRight (to - from) from s) (walkedRight .sound) (narrowed-qubits walkedRight) (narrowed-cap walkedRight) (omega arith) hf (omega (arith, first .long)))
+
+-- a move to where the centre is: no step, and the centre set to what it is
+pub moved-still : (k : ℕ) (s : State) → s .chain .center ≡ At k → moved k k s ≡ s
+unfolding moved walkLeft walkRight
+moved-still k s e =
+    let z : k - k ≡ 0 = omega arith in
+    ap (λ (n : ℕ). centered k (walkLeft n k (walkRight n k s))) z ∙ ap (λ (at : Center). held (withCenter (s .chain) at) (s .store)) (sym e)
 
 abbrev pub lastSite : State → ℕ
 lastSite s = s .chain .«num_qubits» - 1
