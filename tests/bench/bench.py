@@ -45,6 +45,12 @@ for name in ("root_export", "bench_export"):
     run("rt", "staticlib", name, cwd=TOP, stdout=subprocess.DEVNULL, stderr=subprocess.DEVNULL)
 
 SIZE = "crate::surround::complex_size(g_pq)"
+NOTED = {
+    "crate::surround::note_stored(singular_values, chi_kept);": "",
+    "crate::surround::note_retry();": "",
+    "crate::surround::note_site(left_site);": "",
+    "crate::surround::noted_share(discarded / total)": "discarded / total",
+}
 shipped, rooted, bench = (os.path.join(OUT, name) for name in ("shipped", "rooted", "bench"))
 for folder in (shipped, rooted, bench):
     shutil.rmtree(folder, ignore_errors=True)
@@ -52,9 +58,11 @@ for folder in (shipped, rooted, bench):
     manifest = os.path.join(folder, "Cargo.toml")
     text = re.sub(r"\[\[bin\]\]\nname = .*\npath = .*\n", "", open(manifest).read())
     open(manifest, "w").write(text)
-    # what the oracle notes of its cuts is no part of what is timed
-    for noted in ("crate::surround::note_stored(singular_values, chi_kept);", "crate::surround::note_retry();"):
-        replaced(os.path.join(folder, "src", "mps", "mod.rs"), noted, "")
+    # what the oracle notes of its cuts and shares is no part of what is timed
+    for noted, shipped_as in NOTED.items():
+        replaced(os.path.join(folder, "src", "mps", "mod.rs"), noted, shipped_as)
+    for noted in ("begin_shares();", "self.add_shares(take_shares());"):
+        replaced(os.path.join(folder, "src", "mps", "access.rs"), noted, "")
 for folder, size in ((shipped, "g_pq.norm()"), (rooted, "unsafe { crate::jondwave_norm(g_pq.re, g_pq.im) }")):
     replaced(os.path.join(folder, "Cargo.toml"), 'name = "oracle"', f'name = "{os.path.basename(folder)}"')
     replaced(os.path.join(folder, "src", "mps", "svd.rs"), SIZE, size)

@@ -142,6 +142,11 @@ gen_mod = replace(gen_mod, "    fn record_truncation(&mut self, singular_values:
                   "        crate::surround::note_stored(singular_values, chi_kept);\n", 1)
 gen_mod = replace(gen_mod, "            return Ok(false);\n",
                   "            crate::surround::note_retry();\n            return Ok(false);\n", 1)
+# document 02, W6: each share is noted where the Rust adds it, the Rust's own quotient, with the left site of the cut
+gen_mod = replace(gen_mod, "        self.record_truncation(&svd_result.s, chi_new);\n",
+                  "        crate::surround::note_site(left_site);\n        self.record_truncation(&svd_result.s, chi_new);\n", 1)
+gen_mod = replace(gen_mod, "self.truncation_discarded += discarded / total;",
+                  "self.truncation_discarded += crate::surround::noted_share(discarded / total);", 1)
 
 # ---------------------------------------------------------------- mps/svd.rs: the whole file
 gen_svd = SVD

@@ -6,10 +6,11 @@
 ORACLE is the program oracle_calls (build_oracle.py), HARNESS one over the port's calls (build_harness.py;
 harness.rt.txt says what it reads and writes). Both read the same words. After each call are compared: the answer, every field of the
 record, every number of the store, of the work slice and of the result slice. What the oracle cannot be handed, an
-unsound record, is held against document 01. The Rust has no reasons: an accepted gate's is found here, by `reason`, from
-the values that the oracle's last stored cut had. All NaNs count as one.
+unsound record, is held against documents 01 and 02. The Rust has no reasons: an accepted gate's is found here, by
+`reason`, from the values that the oracle's last stored cut had. Nor has it a figure for each bond: the oracle keeps them of
+the shares that the Rust adds, and the one of the last stored cut is found here too, by `share`. All NaNs count as one.
 """
-import argparse, collections, copy, itertools, math, os, random, resource, struct, subprocess, sys
+import argparse, collections, copy, functools, itertools, math, os, random, resource, struct, subprocess, sys
 from array import array
 
 START, GATE, NAMED, PROJECT, MEASURE, RESET, LEFT, RIGHT = 1, 2, 3, 4, 5, 6, 7, 8
@@ -60,7 +61,19 @@ def done(why):
 # the answer of an accepted gate, whatever its reason
 DONE = (1,)
 
-# ---------------------------------------------------------------- a record, as 328 words
+def squares(values):
+    """The sum of the squares, one after the other."""
+    return functools.reduce(lambda sum, s: sum + s * s, values, 0.0)
+
+def share(values, kept):
+    """What a stored cut adds to the discarded weight, or None: W6."""
+    total = squares(values)
+    return None if kept >= len(values) or total <= 0 else squares(values[kept:]) / total
+
+# ---------------------------------------------------------------- a record, as 391 words
+# the bonds' figures are the last 63
+BY_BOND, WORDS = 328, 391
+
 class Record:
     def __init__(self, n, d, exponent=63, epsilon=0.0, clamp=0.0):
         pad = lambda l: list(l) + [0] * (64 - len(l))
@@ -69,6 +82,7 @@ class Record:
         self.l2s, self.s2l = pad(range(n)), pad(range(n))
         self.flags = [0] * 64
         self.center, self.high, self.discarded = None, 1, 0.0
+        self.by_bond = [0.0] * 63
 
     def bonds(self, inner):
         """The bonds between neighbours."""
@@ -84,9 +98,9 @@ class Record:
 
     def words(self):
         return ([self.n, self.d, self.exponent, bits(self.epsilon), bits(self.clamp)] + self.bl + self.br + self.l2s + self.s2l
-                + self.flags + [0 if self.center is None else self.center + 1, self.high, bits(self.discarded)])
+                + self.flags + [0 if self.center is None else self.center + 1, self.high, bits(self.discarded)] + [bits(x) for x in self.by_bond])
 
-ZERO_RECORD = [0] * 328
+ZERO_RECORD = [0] * WORDS
 
 def runs(words):
     """A list of numbers as its length and its runs."""
@@ -145,7 +159,7 @@ class Reader:
 Told = collections.namedtuple("Told", "answer record sites env stored retries again values kept")
 
 def told(o):
-    answer, record = o.words(2), o.words(328)
+    answer, record = o.words(2), o.words(WORDS)
     sites = [(o.words(1)[0], o.numbers()) for _ in range(o.words(1)[0])]
     env, cuts, values, (kept,) = o.numbers(), o.words(3), o.numbers(), o.words(1)
     return Told(answer, record, sites, env, *cuts, array("d", values.tobytes()), kept)
@@ -188,6 +202,20 @@ def wanted(kind, args, before, o):
     same("the oracle's last cut: number of values", len(o.values), 2 * min(o.record[5 + p], o.record[69 + p + 1]))
     return list(done(reason(o.values, epsilon, cap)))
 
+def check_figures(kind, args, before, o):
+    """The oracle's figures, +0 after a start. A route is cut from its right end to its left, each bond once: the figure of the bond
+    that was cut last has that cut's share, and those of bonds that were not cut are as before."""
+    first = last = 0
+    if kind in (GATE, NAMED) and o.stored:
+        last = pair_of(before, args)[1]
+        first = last - o.stored
+        x = share(o.values, o.kept)
+        figure = before[BY_BOND + first]
+        same(f"the oracle's figure of bond {first}", o.record[BY_BOND + first], figure if x is None else bits(float_of(figure) + x))
+    kept = ZERO_RECORD if kind == START else before
+    for a, b in ((BY_BOND, BY_BOND + first), (BY_BOND + last, WORDS)):
+        same("the oracle's other figures", o.record[a:b], kept[a:b])
+
 def check_case(case, port, oracle, tally):
     """Raises Difference. port and oracle are Readers."""
     rec, store, work, out = ZERO_RECORD, array("Q"), array("Q"), array("Q")
@@ -205,7 +233,7 @@ def check_case(case, port, oracle, tally):
             at = f"step {number}, {KINDS[kind]} {args[:2]}"
             try:
                 answer = port.words(2)
-                p_rec = port.words(328)
+                p_rec = port.words(WORDS)
                 p_store, p_work, p_out = port.numbers(), port.numbers(), port.numbers()
             except EOFError:
                 raise Difference("the port ended early")
@@ -214,6 +242,7 @@ def check_case(case, port, oracle, tally):
             except EOFError:
                 raise Difference("the oracle ended early")
             sites, env = o.sites, o.env
+            check_figures(kind, args, rec, o)
             same("answer", answer, wanted(kind, args, rec, o))
             if expect is not None:
                 same("answer expected by the papers", answer[: len(expect)], list(expect))
@@ -259,6 +288,7 @@ def check_case(case, port, oracle, tally):
             else:
                 same("result unaltered", p_out, out)
             note(tally, kind, args, answer, rec, p_rec, o)
+            note_figures(tally, kind, answer, rec, p_rec, o)
         except Difference as e:
             raise Difference(f"{at}: {e}") from None
         rec, store, work, out = p_rec, p_store, p_work, p_out
@@ -311,6 +341,21 @@ def note(tally, kind, args, answer, before, after, o):
     if kind in (GATE, NAMED) and tag == 1:
         tally[f"gates with a widest bond of {'1' if widest == 1 else '2 to 4' if widest <= 4 else '5 to 16' if widest <= 16 else 'more than 16'}"] += 1
 
+def note_figures(tally, kind, answer, before, after, o):
+    """The bonds' figures, all of which were compared."""
+    old, new = before[BY_BOND:], after[BY_BOND:]
+    tally["figures of bonds compared"] += len(new)
+    tally["figures of bonds compared, not +0"] += sum(w != 0 for w in new)
+    if kind == START: return
+    moved = [k for k in range(63) if old[k] != new[k]]
+    if moved: tally["calls that change a bond's figure"] += 1
+    if len(moved) > 1: tally["calls that change two or more bonds' figures"] += 1
+    if any(old[k] for k in moved): tally["calls that change a bond's figure that was not +0"] += 1
+    if moved and answer[0] == 0: tally[f"calls that change a bond's figure, refused by {answer[1]}"] += 1
+    if len(moved) > 1 and answer[0] == 0: tally[f"calls that change two or more bonds' figures, refused by {answer[1]}"] += 1
+    if moved and o.retries: tally["calls that change a bond's figure, a cut made again"] += 1
+    if 62 in moved: tally["calls that change the last bond's figure at n 64"] += 1
+
 def note_reason(tally, why, routed, o):
     """An accepted gate's reason, alone and with what else there was."""
     tally[f"accepted gates: {why}"] += 1
@@ -335,9 +380,14 @@ def note_wide(tally, bonds, above, how):
 ALL_GATES = list(range(15))
 ENTANGLING, PERMUTATIONS = [0, 1, 2, 3, 8, 9, 14], [5, 6]
 
+# what a figure may be inside the chain, and may not be past its last bond
+FIGURES = [-0.0, float("nan"), 1e-300, 1.0, 5e-324]
+
 class Draw:
     def __init__(self, seed):
         self.r = random.Random(seed)
+        # the bonds' figures have a generator of their own, so that the rest of a case is drawn as without them
+        self.f = random.Random(f"{seed} figures")
         self.gates, self.outcomes = ALL_GATES, 1.0
 
     def small(self):
@@ -428,6 +478,13 @@ class Draw:
 
     def bad_draw(self):
         return self.r.choice([1.0, 1.5, -5e-324, -1.0, INF, -INF, float("nan")])
+
+    def figures(self, n):
+        """The bonds' figures of a chain of n qubits: none yet, ordinary ones, or of any kind."""
+        f = self.f
+        some = [lambda: 0.0, f.random, lambda: f.choice([0.0, f.random(), 3 * f.random(), *FIGURES, 1e300, -1.5, INF, -INF])]
+        draw = f.choice([some[0], some[1], some[1], some[2]])
+        return [draw() for _ in range(n - 1)] + [0.0] * (64 - n)
 
     def epsilon(self):
         return self.r.choice([0.0, 0.0, 0.0, -0.0, 1e-12, 1e-12, 1e-3, 0.1, 0.3, 0.6, 0.99, 5e-324, 2.0**-50])
@@ -602,6 +659,7 @@ def any_record(t, n, d, widest):
     rec.permute(r.sample(range(n), n))
     rec.flags = [r.randrange(2) for _ in range(64)]
     rec.discarded = r.choice([0.0, -0.0, r.random(), 1e300, INF, -INF, float("nan"), -3.0, 5e-324])
+    rec.by_bond = t.figures(n)
     return rec
 
 def records(t, count):
@@ -690,6 +748,7 @@ def middle(t, count):
         bond = lambda: r.randrange(17, min(d, r.choice([32, d, d, d])) + 1)
         rec = Record(n, d, 63, [0.0, 1e-12, 0.0, 0.3, 1e-3, -0.0, 0.05][k // 2 % 7], r.choice([0.0, 1e-30])).bonds([bond() for _ in range(n - 1)])
         if k % 3: rec.high = r.choice([d, r.randrange(rec.high, d + 1)])
+        rec.by_bond = t.figures(n)
         rec.permute(r.sample(range(n), n))
         kind = r.choice(["gauss"] * 4 + ["plain", "near", "sparse", "deficient", "tiny", "subnormal"])
         c = Case("middle", f"{k}: n {n} D {d} bonds {rec.br[:n]} epsilon {rec.epsilon} numbers {kind}")
@@ -714,7 +773,7 @@ def wide(t, full):
     if full: shapes += [(4, [128, 128, 128]), (4, [128, 64, 128])]
     for k, (n, inner) in enumerate(shapes):
         rec = Record(n, 128, 63, [0.0, 1e-12][k % 2], 0.0).bonds(inner)
-        rec.center = [None, 1, 0][k % 3]
+        rec.center, rec.by_bond = [None, 1, 0][k % 3], t.figures(n)
         c = Case("wide", f"bonds {inner} centre {rec.center} epsilon {rec.epsilon}")
         c.record(rec)
         c.numbers(STORE, sites(t, rec, "gauss"))
@@ -905,6 +964,7 @@ def reasons(t, count):
         n, d = r.randrange(4, 6), 2 if k % 4 == 3 else 4
         rec = Record(n, d, 63, r.choice([0.03, 0.1, 0.3])).bonds([2] * (n - 2) + [1] if d == 2 else [r.choice([1, 2, 2, 2]) for _ in range(n - 1)])
         rec.permute(r.sample(range(n), n))
+        rec.by_bond = t.figures(n)
         # the sites as they are, one of them zeros, all of them large, and as they are
         factors = [[1.0] * n, [float(s != k // 4 % n) for s in range(n)], [r.choice([1e35, 1e40, 1e75])] * n, [1.0] * n][k % 4]
         c = Case("reasons", f"{k}: n {n} D {d} bonds {rec.br[:n]} epsilon {rec.epsilon} factors {factors}")
@@ -915,6 +975,103 @@ def reasons(t, count):
             a, b = r.sample(range(n), 2)
             if r.random() < 0.2: c.call(NAMED, a, b, r.randrange(3))
             else: c.call(GATE, a, b, *t.gate_words([z for row in t.unitary() for z in row]))
+        cases.append(c)
+    return cases
+
+def every_call_accepted(c, t, rec, store):
+    """Each call once, on this record and this store."""
+    calls = [(PROJECT, [0, 0], (2,)), (MEASURE, [0, 3, bits(0.5)], (4,)), (RESET, [rec.n - 1, bits(0.5)], (1, 0)), (LEFT, [0, rec.n], (5,)), (RIGHT, [0, rec.n - 1], (5,))]
+    if rec.n > 1:
+        a = t.r.randrange(rec.n - 1)
+        calls += [(GATE, [a, a + 1, *t.gate_words([z for row in t.unitary() for z in row])], DONE), (NAMED, [a + 1, a, t.r.randrange(3)], DONE)]
+    for kind, args, expect in calls:
+        c.record(rec)
+        c.numbers(STORE, store)
+        c.call(kind, *args, expect=expect)
+
+def figures_examined(t):
+    """Any figure inside the chain: every call is accepted. Past the last bond none but +0: 3, and nothing written."""
+    cases = []
+    for n in (1, 2, 3, 5, 63, 64):
+        rec = Record(n, 2, 63).bonds([t.r.choice([1, 2]) for _ in range(n - 1)])
+        rec.center = t.r.choice([None, 0, n - 1])
+        store = sites(t, rec, "gauss")
+        c = Case("figures", f"n {n}, each entry's values")
+        c.numbers(WORK, t.work(work_room(2) + 1)); c.numbers(OUT, t.rest(9)); c.numbers(STORE, store)
+        past = {n - 1, 62, t.r.randrange(n - 1, 63)} if n < 64 else set()
+        inside = {0, n - 2, t.r.randrange(n - 1)} if n > 1 else set()
+        for k in sorted(inside | past):
+            for v in FIGURES + [INF, -INF]:
+                x = copy.deepcopy(rec)
+                x.by_bond[k] = v
+                if k < n - 1: every_call_accepted(c, t, x, store)
+                else:
+                    c.record(x)
+                    every_call(c, t, n, (0, 3))
+                    tally_unsound[0] += 1
+        cases.append(c)
+    return cases
+
+def dropping(t, k):
+    """A record and a store for gates on sites p and q, whose route drops weight at each bond: made again with a centre, refused by 6
+    or by 7 behind some of its swaps, or done."""
+    r = t.r
+    if k == 0:
+        n, d = r.randrange(4, 8), 4
+        rec = Record(n, d, 63, r.choice([0.03, 0.1, 0.3])).bonds([r.choice([1, 2, 2, 2]) for _ in range(n - 1)])
+        return rec, skewed(t, rec, r.randrange(n - 1), [1.0] * n), sorted(r.sample(range(n), 2))
+    n = r.randrange(5, 10)
+    if k == 1:
+        # 20 * 5 * 5 + 2 * 5 * 5 numbers are more than 512
+        left = r.randrange(2, n - 2)
+        rec = Record(n, 5, 9).bonds([5] * left + [3] * (n - 1 - left))
+        p, q = r.randrange(0, left - 1), r.randrange(left + 1, n)
+    else:
+        rec = Record(n, r.choice([1, 2, 3]), 63, r.choice([0.0, 0.0, 0.1]))
+        rec.bonds([rec.d] * (n - 1))
+        p, q = sorted(r.sample(range(n), 2))
+    rec.center = r.choice([q, q, q, q - 1, None])
+    store = sites(t, rec, "gauss")
+    if k == 2:
+        bad = r.randrange(p, q)
+        store[4 * rec.d * rec.d * bad + r.randrange(4 * rec.bl[bad] * rec.br[bad])] = r.choice([NAN, bits(INF), bits(1e200)])
+    return rec, store, (p, q)
+
+def figures(t, count):
+    """What each bond has discarded: streams whose caps drop weight at many bonds, and records with figures of any kind."""
+    cases, r = figures_examined(t), t.r
+    for k in range(count):
+        if k % 4 == 0:
+            # the last bond has two values at most, so that a cap of 1 drops one
+            n, d, eps = [64, 3, 4, 5, 6, 8, 10][k // 4 % 7], r.choice([1, 2, 2, 3]), r.choice([0.0, 0.0, 1e-12, 0.1, 0.3])
+            if n == 64: d = [1, 2][k // 28 % 2]
+            c = Case("figures", f"{k}: a stream, n {n} D {d} epsilon {eps}")
+            lend(c, t, n, d)
+            first = n - 6 if n == 64 else 0
+            t.gates, t.outcomes = ENTANGLING, 0.15
+            for exponent in (63, r.choice([6, 7, 8, 9])):
+                c.call(START, n, d, bits(eps), 0, exponent, expect=(1, 0))
+                for _ in range(14):
+                    a, b = r.sample(range(first, n), 2) if r.random() < 0.9 else r.sample(range(n), 2)
+                    c.call(GATE, a, b, *t.gate_words(t.gate()))
+                    if r.random() < 0.2: any_call(c, t, n, d)
+            t.gates, t.outcomes = ALL_GATES, 1.0
+            c.call(START, n, 0, 0, 0, 63, expect=(0, 1))
+        else:
+            rec, store, (p, q) = dropping(t, k % 4 - 1)
+            rec.by_bond = t.figures(rec.n)
+            rec.permute(r.sample(range(rec.n), rec.n))
+            c = Case("figures", f"{k}: n {rec.n} D {rec.d} bonds {rec.br[:rec.n]} sites {p} and {q} centre {rec.center} epsilon {rec.epsilon}")
+            c.numbers(OUT, []); c.numbers(WORK, t.work(work_room(rec.d)))
+            for _ in range(6):
+                c.record(rec)
+                c.numbers(STORE, store)
+                a, b = r.sample([rec.s2l[p], rec.s2l[q]], 2)
+                if r.random() < 0.2: c.call(NAMED, a, b, r.randrange(3))
+                else: c.call(GATE, a, b, *t.gate_words([z for row in t.unitary() for z in row]))
+                a, b = r.sample(range(rec.n), 2)
+                c.call(GATE, a, b, *t.gate_words([z for row in t.unitary() for z in row]))
+                any_call(c, t, rec.n, rec.d, envs=False)
         cases.append(c)
     return cases
 
@@ -1052,6 +1209,8 @@ def unsound(t, count):
             for k in range(n): put(what, k, (getattr(rec, what)[k] + 1) % n if n > 1 else 1); put(what, k, n if n < 255 else 0); put(what, k, 255)
         for what in ("bl", "br", "l2s", "s2l"):
             for k in {n, 63, r.randrange(n, 64)} if n < 64 else []: put(what, k, r.choice([1, 255]))
+        for k in {n - 1, 62, t.f.randrange(n - 1, 63)} if n < 64 else []:
+            for v in FIGURES: put("by_bond", k, v)
         if n >= 3:
             cycle = [1, 2, 0]
             def turn(x):
@@ -1116,6 +1275,7 @@ def perturbed(t, count):
                 else:
                     i, j = r.randrange(64), r.randrange(64)
                     if i < n and j < n: x.permute([x.s2l[j] if s == i else x.s2l[i] if s == j else x.s2l[s] for s in range(n)])
+            if t.f.random() < 0.3: x.by_bond[t.f.randrange(63)] = t.f.choice([0.0, *FIGURES])
             c.record(x)
             c.numbers(STORE, t.rest(store_room(64, 4)) if r.random() < 0.1 else [bits(t.small())] * store_room(64, 4))
             c.call(PROJECT, r.randrange(n), r.randrange(2))
@@ -1157,7 +1317,7 @@ def categories(scale, full):
     return {
         "run cases": marked, "starts": lambda t: starts(t, k(20)), "streams": lambda t: streams(t, k(400)),
         "records": lambda t: records(t, k(180)), "environments": lambda t: environments(t, k(60)), "weights": lambda t: weights(t, k(60)), "edges": edges,
-        "reasons": lambda t: reasons(t, k(160)),
+        "reasons": lambda t: reasons(t, k(160)), "figures": lambda t: figures(t, k(120)),
         "workspace": lambda t: workspace(t, k(60)), "not a number": lambda t: not_a_number(t, k(80)), "short slices": short_slices,
         "unsound records": lambda t: unsound(t, k(25)), "perturbed records": lambda t: perturbed(t, k(40)), "high water": lambda t: high_water(t, k(50)),
         "middle": lambda t: middle(t, k(150 if full else 12)), "wide": lambda t: wide(t, full),

@@ -215,7 +215,7 @@ def run_cases():
     add("run cases", "E, D 2: bond 2, then Kept 0.5", [start(2, 2, 5), gate(0, 1, E), project(0, 1)],
         ["1 0", "2 0", "4 0 3FE0000000000000"], ["# site 0 bonds 1 2 :"])
     add("run cases", "E, D 1: bond 1, discarded 0.5", [start(2, 1, 5), gate(0, 1, E)],
-        ["1 0", "2 0"], ["# site 0 bonds 1 1 :", "discarded 3FE0000000000000"])
+        ["1 0", "2 0"], ["# site 0 bonds 1 1 :", "discarded 3FE0000000000000", "# discarded by bond 3FE0000000000000"])
     add("run cases", "E on (1,2), then Cx on (0,2): 6 in mid-route", [start(3, 2, 5), gate(1, 2, E), named(0, 2, CX)],
         ["1 0", "2 0", "3 6"], ["# qubits by site 0 2 1"])
     add("run cases", "exponent 5 accepts a first cut", [start(2, 2, 5), gate(0, 1, E)], ["1 0", "2 0"])

@@ -13,8 +13,9 @@ use Rattle.complex.specs.Numbers.{count}
 use Rattle.complex.specs.Parts.{put}
 use Rattle.model.specs.declared.Chain.{Chain}
 use Rattle.model.specs.declared.Center.{Center}
-use Rattle.model.specs.Chain.{withCenter, withBond, withTruncation}
-use Rattle.model.specs.Truncation.{recorded, workspace}
+use Rattle.model.specs.Chain.{withCenter, withBond}
+use Rattle.model.specs.Cut.{cutRecorded}
+use Rattle.model.specs.Truncation.{workspace}
 use Rattle.model.specs.Slots.{slotRoom, slotOf}
 use Rattle.cutting.specs.Shape.{shapeOf, room, room-fits}
 use Rattle.pair.specs.declared.Bonds.{Bonds}
@@ -44,7 +45,7 @@ pub record SlotsOf (d k : ℕ) (r : Slots) : Type 0 where
 
 -- the bond, the widest bond so far, the weight discarded so far, with a cut's shares added, and the centre
 abbrev pub recordedCut : Chain → ℕ → ℕ → List Float → Center → Chain
-recordedCut c k chi shares at = withCenter (withTruncation (withBond c k chi) (max (c .«bond_high_water») chi) (recorded (c .«truncation_discarded») shares)) at
+recordedCut c k chi shares at = withCenter (cutRecorded k chi shares (withBond c k chi)) at
 
 -- the numbers that a cut of these bonds works in
 abbrev needed : Bonds → ℕ

@@ -216,6 +216,7 @@ fn record_cut(chain: Chain, k: usize, chi: usize, share: Share, weight: Weight) 
     out.bond_right[k] = chi as u8;
     out.bond_high_water = larger(chain.bond_high_water, chi);
     out.truncation_discarded = add_share(chain.truncation_discarded, share);
+    out.bond_discarded[k] = add_share(chain.bond_discarded[k], share);
     out
 }
 

@@ -40,6 +40,7 @@ pub fn fresh_chain(n: usize, d: usize, epsilon: f64, clamp: f64, exponent: u8) -
     let bonds = unit_bonds(n);
     let labels = identity_labels(n);
     let bits = [false; 64];
+    let discarded = [0.0; 63];
     Chain {
         num_qubits: n,
         max_bond_dim: d,
@@ -54,6 +55,7 @@ pub fn fresh_chain(n: usize, d: usize, epsilon: f64, clamp: f64, exponent: u8) -
         center: Center::Unknown,
         bond_high_water: 1,
         truncation_discarded: 0.0,
+        bond_discarded: discarded,
     }
 }
 
@@ -62,6 +64,7 @@ pub fn zero_chain() -> Chain
 {
     let zeros = [0u8; 64];
     let bits = [false; 64];
+    let weights = [0.0; 63];
     Chain {
         num_qubits: 0,
         max_bond_dim: 0,
@@ -76,6 +79,7 @@ pub fn zero_chain() -> Chain
         center: Center::Unknown,
         bond_high_water: 0,
         truncation_discarded: 0.0,
+        bond_discarded: weights,
     }
 }
 

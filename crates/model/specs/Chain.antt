@@ -2,7 +2,7 @@
 use Prim.Native.Nat.{ℕ, _+_}
 use mathlib.Core.Bool.{Bool}
 use mathlib.Core.List.{List}
-use lib.Ieee.{Float}
+use lib.Ieee.{Float, nan}
 use lib.ListN.{getD, set}
 use Rattle.model.specs.declared.Center.{Center}
 use Rattle.model.specs.declared.Chain.{Chain}
@@ -22,6 +22,10 @@ siteOf c q = getD (c .«logical_to_site») q 0
 
 abbrev pub qubitAt : Chain → ℕ → ℕ
 qubitAt c k = getD (c .«site_to_logical») k 0
+
+-- the weight that the cuts at the bond between sites k and k + 1 have discarded (document 02, W6)
+abbrev pub bondDiscarded : Chain → ℕ → Float
+bondDiscarded c k = getD (c .«bond_discarded») k nan
 
 -- ---- the fields, in groups that change together
 
@@ -52,13 +56,14 @@ pub record Labels : Type 0 where
 abbrev pub labelsOf : Chain → Labels
 labelsOf c = record { sites = c .«logical_to_site»; qubits = c .«site_to_logical» }
 
--- what the cuts left: the widest bond so far, and the weight that they discarded
+-- what the cuts left: the widest bond so far, the weight that they discarded, and the same of each bond by itself
 pub record CutTotals : Type 0 where
   pub high-water : ℕ
   pub discarded : Float
+  pub by-bond : List Float
 
 abbrev pub cutTotalsOf : Chain → CutTotals
-cutTotalsOf c = record { high-water = c .«bond_high_water»; discarded = c .«truncation_discarded» }
+cutTotalsOf c = record { high-water = c .«bond_high_water»; discarded = c .«truncation_discarded»; by-bond = c .«bond_discarded» }
 
 -- ---- built: the one place that names every field of the record
 
@@ -77,6 +82,7 @@ built settings bonds labels bits at totals = record {
   center = at;
   «bond_high_water» = totals .high-water;
   «truncation_discarded» = totals .discarded;
+  «bond_discarded» = totals .by-bond;
 }
 
 -- ---- changed
@@ -97,7 +103,7 @@ withLabels c sites qubits = built (settingsOf c) (bondsOf c) (record { sites = s
 abbrev pub withBits : Chain → List Bool → Chain
 withBits c bits = built (settingsOf c) (bondsOf c) (labelsOf c) bits (c .center) (cutTotalsOf c)
 
--- the widest bond so far, and the weight that the cuts have discarded
-abbrev pub withTruncation : Chain → ℕ → Float → Chain
-withTruncation c high discarded =
-    built (settingsOf c) (bondsOf c) (labelsOf c) (c .«classical_bits») (c .center) (record { high-water = high; discarded = discarded })
+-- the widest bond so far, and the weight that the cuts have discarded, of the chain and by bond
+abbrev pub withTruncation : Chain → ℕ → Float → List Float → Chain
+withTruncation c high discarded by-bond =
+    built (settingsOf c) (bondsOf c) (labelsOf c) (c .«classical_bits») (c .center) (record { high-water = high; discarded = discarded; by-bond = by-bond })

@@ -3,12 +3,13 @@ use Prim.Native.Nat.{ℕ, _+_, _^_, max}
 use mathlib.Core.Bool.{Bool, true, false, not, _&&_, _||_, cond}
 use mathlib.Core.List.{List}
 use lib.Dec.{leb, ltb}
-use lib.Ieee.{lt}
+use lib.ListN.{set}
+use lib.Ieee.{Float, lt}
 use Rattle.complex.specs.Complex.{zeroF}
 use Rattle.complex.specs.declared.Complex.{Complex}
 use Rattle.model.specs.declared.Chain.{Chain}
 use Rattle.model.specs.declared.Reason.{Reason}
-use Rattle.model.specs.Chain.{withCenter, withTruncation}
+use Rattle.model.specs.Chain.{bondDiscarded, withCenter, withTruncation}
 use Rattle.model.specs.Slots.{State, held, lefts, rights, siteAt}
 use Rattle.model.specs.Svd.{Svd, values, rawValue, anyNan}
 use Rattle.model.specs.Truncation.{rank, rankReason, resolvable, share, recorded, cutRank, workspace}
@@ -63,12 +64,16 @@ abbrev pub weightSite : WeightSide → ℕ → ℕ
 weightSite Left k = k
 weightSite Right k = k + 1
 
+-- the totals after a cut of the bond between k and k + 1 that kept chi values: its share, if it has one, is added to the chain's figure and to the bond's own
+abbrev pub cutRecorded : ℕ → ℕ → List Float → Chain → Chain
+cutRecorded k chi shares c =
+    withTruncation c (max (c .«bond_high_water») chi) (recorded (c .«truncation_discarded») shares) (set (c .«bond_discarded») k (recorded (bondDiscarded c k) shares))
+
 -- the cut stored: both sites, their bond, the widest bond, the discarded weight, and the centre if one is kept
 abbrev pub cutStored : ℕ → Bool → WeightSide → State → Svd → ℕ → State
 cutStored k maintained side s d chi =
     let t = pairStored k (leftSite side (lefts s k) chi d) chi (rightSite side chi (rights s (k + 1)) d) s in
-    let c = withTruncation (t .chain) (max (s .chain .«bond_high_water») chi) (recorded (s .chain .«truncation_discarded») (share (values d) chi)) in
-    held (withCenter c (cond maintained (At (weightSite side k)) (s .chain .center))) (t .store)
+    held (withCenter (cutRecorded k chi (share (values d) chi) (t .chain)) (cond maintained (At (weightSite side k)) (s .chain .center))) (t .store)
 
 -- 7 at a NaN among the values; again where weight would be lost without a centre; else stored
 abbrev pub concluded : ℕ → Bool → WeightSide → State → Svd → Tried

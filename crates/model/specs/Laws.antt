@@ -1,6 +1,7 @@
 -- Laws of the definitions, and the proofs of the statements. The checker vouches for these.
 pub mod AfterStates
 pub mod AsAt63
+pub mod BondShares
 pub mod ColumnLaws
 pub mod CutEnds
 pub mod CutLaws

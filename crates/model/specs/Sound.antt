@@ -4,7 +4,7 @@ use mathlib.Core.Bool.{Bool, true, false, _&&_, _||_}
 use mathlib.Core.List.{List}
 use lib.Dec.{leb, ltb, eqb}
 use lib.ListN.{length, getD}
-use lib.Ieee.{Float, le, lt}
+use lib.Ieee.{Float, nan, binary64, le, lt, toBits}
 use Rattle.complex.specs.Complex.{zeroF, oneF}
 use Rattle.complex.specs.Loops.{every}
 use Rattle.model.specs.declared.Center.{Center}
@@ -45,11 +45,15 @@ abbrev pub centerFits : Center → ℕ → Bool
 centerFits Unknown n = true
 centerFits (At k) n = ltb k n
 
--- every array has 64 entries, as its type says
+-- the discarded weights past the last bond, that between n - 2 and n - 1, are +0, whose bits are 0; the others are free (document 02, W6)
+unfoldable pub discardedFits : ℕ → List Float → Bool
+discardedFits n xs = every 63 (λ k. ltb (k + 1) n || eqb (toBits binary64 (getD xs k nan)) 0)
+
+-- every array has 64 entries, and that of the bonds between neighbours 63, as its type says
 unfoldable pub sized : Chain → Bool
 sized c =
     eqb (length (c .«bond_left»)) 64 && eqb (length (c .«bond_right»)) 64 && eqb (length (c .«logical_to_site»)) 64 && eqb (length (c .«site_to_logical»)) 64
-    && eqb (length (c .«classical_bits»)) 64
+    && eqb (length (c .«classical_bits»)) 64 && eqb (length (c .«bond_discarded»)) 63
 
 unfoldable pub sound : Chain → Bool
 sound c =
@@ -59,4 +63,5 @@ sound c =
     && undoes (c .«num_qubits») (c .«logical_to_site») (c .«site_to_logical»)
     && undoes (c .«num_qubits») (c .«site_to_logical») (c .«logical_to_site»)
     && centerFits (c .center) (c .«num_qubits»)
+    && discardedFits (c .«num_qubits») (c .«bond_discarded»)
     && sized c

@@ -17,10 +17,11 @@ use Rattle.model.specs.Slots.{slotRoom, storeRoom, filled}
 abbrev pub upTo : ℕ → (ℕ → ℕ) → List ℕ
 upTo n f = tabulate 64 (λ i. cond (ltb i n) (f i) 0)
 
--- a record with no flag set, no centre and nothing discarded; the bonds left and right of the sites are one list, and so are the two label maps
+-- a record with no flag set, no centre and nothing discarded, at no bond; the bonds left and right of the sites are one list, and so are the two label maps
 abbrev pub startChain : ChainSettings → List ℕ → List ℕ → ℕ → Chain
 startChain settings bonds labels high =
-    built settings (record { left = bonds; right = bonds }) (record { sites = labels; qubits = labels }) (replicate 64 false) Unknown (record { high-water = high; discarded = zeroF })
+    built settings (record { left = bonds; right = bonds }) (record { sites = labels; qubits = labels }) (replicate 64 false) Unknown
+    (record { high-water = high; discarded = zeroF; by-bond = replicate 63 zeroF })
 
 unfoldable pub freshChain : ℕ → ℕ → Float → Float → ℕ → Chain
 freshChain n d epsilon clamp exponent =

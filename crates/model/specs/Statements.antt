@@ -9,6 +9,7 @@ pub mod Demand3
 pub mod Product
 pub mod ZeroSigns
 pub mod Uncapped
+pub mod BondWeights
 pub mod Reasons
 pub mod Factorings
 pub mod CutsAndMoves

@@ -8,7 +8,8 @@ pub enum Center {
 }
 
 // The chain record: settings, bonds of each site, label maps, classical flags, centre, and what the cuts left.
-// The fields are named as in the Rust. Bonds and labels are bytes: a bond is at most 128, a label below 64.
+// The fields are named as in the Rust, which has no bond_discarded. Bonds and labels are bytes: a bond is at most 128, a
+// label below 64. Entry k of bond_discarded is the weight that the cuts at the bond between sites k and k + 1 discarded.
 pub struct Chain {
     pub num_qubits: usize,
     pub max_bond_dim: usize,
@@ -23,6 +24,7 @@ pub struct Chain {
     pub center: Center,
     pub bond_high_water: usize,
     pub truncation_discarded: f64,
+    pub bond_discarded: [f64; 63],
 }
 
 // Which site of a pair carries the singular values after a cut.

@@ -1,5 +1,6 @@
 // Whether a chain record is sound, and its parts that are asked by themselves: the settings that
 // start takes, and a share, as a draw is.
+use bytes_le::to_bits;
 use columns::wide;
 use model::Center;
 use model::Chain;
@@ -9,7 +10,7 @@ ghost use Prim.Native.Nat.{_+_, _-_, _≤_};
 ghost use lib.Dec.{leb, ltb, eqb};
 ghost use lib.ListN.{getD};
 ghost use Rattle.complex.specs.Loops.{every};
-ghost use Rattle.model.specs.Sound.{within, share01, settingsFit, entryFits, undoes, centerFits, sound};
+ghost use Rattle.model.specs.Sound.{within, share01, settingsFit, entryFits, undoes, centerFits, discardedFits, sound};
 
 // Whether x is from low to high.
 fn is_within(low: usize, high: usize, x: usize) -> bool
@@ -115,6 +116,18 @@ fn center_fits(center: Center, n: usize) -> bool
     }
 }
 
+// Whether the weights discarded past the last bond are +0, by their bits.
+fn discarded_fits(bond_discarded: &[f64; 63], n: usize) -> bool
+    requires { ⌜ (1 ≤ n) × (n ≤ 64) ⌝ }
+    ensures { λ r. ⌜ r ≡ discardedFits n (now («bond_discarded» .entry)) ⌝ }
+{
+    let mut ok = true;
+    for i in n - 1..63usize {
+        ok = ok & (to_bits(bond_discarded[i]) == 0);
+    }
+    ok
+}
+
 // Whether a chain record is sound. The parts are looked at where the settings and the widest bond so
 // far fit, so that the chain's length is within the arrays and the widest bond is a byte.
 pub fn is_sound(chain: Chain) -> bool
@@ -135,6 +148,7 @@ pub fn is_sound(chain: Chain) -> bool
             & is_undone(&chain.logical_to_site, &chain.site_to_logical, n)
             & is_undone(&chain.site_to_logical, &chain.logical_to_site, n)
             & center_fits(chain.center, n)
+            & discarded_fits(&chain.bond_discarded, n)
     } else {
         false
     }

@@ -1,5 +1,6 @@
-// Writes a whole state to standard output, a line each: the record, the labels, the sites, and the environments of every
-// site from both ends. What is printed is held against the Rust by `replay`'s list, and stated by no contract.
+// Writes a whole state to standard output, a line each: the record, the labels, the weights discarded by bond, the
+// sites, and the environments of every site from both ends. What is printed is held against the Rust by `replay`'s list,
+// and stated by no contract.
 use bytes_le::to_bits;
 use chain::left_environment;
 use chain::right_environment;
@@ -124,6 +125,13 @@ fn write_labels(labels: [u8; 64], n: usize) {
     write_text(b"\n");
 }
 
+// The weight discarded at each bond, of which there is one fewer than sites.
+fn write_discarded(weights: [f64; 63], n: usize) {
+    write_text(b"# discarded by bond");
+    let bonds = if n == 0 { 0 } else { n - 1 };
+    write_numbers(&weights, 0, bonds);
+}
+
 // ---- the sites
 
 // k * k, of what a bond can be.
@@ -220,6 +228,8 @@ pub fn write_state(chain: Chain, store: &[f64], work: &mut [f64], out: &mut [f64
     write_record(chain);
     let labels = chain.site_to_logical;
     write_labels(labels, chain.num_qubits);
+    let weights = chain.bond_discarded;
+    write_discarded(weights, chain.num_qubits);
     write_sites(chain, store);
     write_environments(chain, store, work, out);
 }

@@ -25,7 +25,7 @@ use Rattle.model.specs.Moves.{absorbedRight, stepRight, absorbedLeft, stepLeft,
 use Rattle.model.specs.Cut.{cutWith, attempt, adjacent}
 use Rattle.model.specs.Routing.{stepped, runSteps, gateRun}
 use Rattle.model.specs.Born.{weight, projectedSite, projectedAt}
-use Rattle.model.specs.Sound.{settingsFit, bondsFit, undoes, sized, sound}
+use Rattle.model.specs.Sound.{settingsFit, bondsFit, undoes, sized, discardedFits, sound}
 use Rattle.model.specs.Start.{freshChain, freshStore, zeroChain}
 use Rattle.model.specs.Calls.{cleared, startCall, gateCall, namedGateCall, projectCall}
 use Rattle.model.specs.Statements.Marked.{Row, allHold, wholes}
@@ -89,5 +89,5 @@ table =
     ∷ []
 
 pub marked : allHold table ≡ true
-unfolding table sub mul div le isNan ofBits toBits addC subC negC conjC mulC isZero normSqr scaleC unscaleC each between tabulate every at store numbers rows rootOf finiteC allFinite gateOf swapGateQubits namedEntry matrixOf filled l2Norm scaledTo zeroed dot term projectedOn takenAway passOf passesOf keptOf columnOf raised qr skipped tangent rotation rotatedP rotatedQ rotatedPair rotated pairStep rowOfPairs sweep sweeps identityAt normalised factored earlier later orderOf anyNan values svd rank resolvable share pair.matrixOf pairSvd isometrySite scaledSite vtSite scaledVtSite absorbedRight stepRight absorbedLeft stepLeft walkRight walkLeft moved established cutWith attempt adjacent stepped runSteps gateRun weight projectedSite projectedAt settingsFit bondsFit undoes sized sound freshChain freshStore zeroChain cleared startCall gateCall namedGateCall projectCall value bodySize fieldBytes hasLength moreBytes fieldsOf valid accepted readOf recordSize frames decimal hexDigit hexText detailText lineText startStep namedGateStep projectionStep kindStep inTurn stepOf linesFrom linesOf textOf
+unfolding table sub mul div le isNan ofBits toBits addC subC negC conjC mulC isZero normSqr scaleC unscaleC each between tabulate every at store numbers rows rootOf finiteC allFinite gateOf swapGateQubits namedEntry matrixOf filled l2Norm scaledTo zeroed dot term projectedOn takenAway passOf passesOf keptOf columnOf raised qr skipped tangent rotation rotatedP rotatedQ rotatedPair rotated pairStep rowOfPairs sweep sweeps identityAt normalised factored earlier later orderOf anyNan values svd rank resolvable share pair.matrixOf pairSvd isometrySite scaledSite vtSite scaledVtSite absorbedRight stepRight absorbedLeft stepLeft walkRight walkLeft moved established cutWith attempt adjacent stepped runSteps gateRun weight projectedSite projectedAt settingsFit bondsFit undoes sized discardedFits sound freshChain freshStore zeroChain cleared startCall gateCall namedGateCall projectCall value bodySize fieldBytes hasLength moreBytes fieldsOf valid accepted readOf recordSize frames decimal hexDigit hexText detailText lineText startStep namedGateStep projectionStep kindStep inTurn stepOf linesFrom linesOf textOf
 marked = refl

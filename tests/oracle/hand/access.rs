@@ -4,7 +4,7 @@ use super::svd::{ThinQr, svd_jacobi};
 use super::*;
 use crate::error::PrismError;
 use crate::limits::Limit;
-use crate::surround::NanSingularValue;
+use crate::surround::{NanSingularValue, Shares, begin_shares, take_shares};
 use std::fmt::Write;
 use std::panic::{AssertUnwindSafe, catch_unwind, resume_unwind};
 
@@ -26,6 +26,8 @@ pub struct Chain {
     pub exponent: usize,
     pub clamp: f64,
     pub lent: Lent,
+    /// the weight discarded at each bond, that between k and k + 1 at k (document 02, W6)
+    pub by_bond: [f64; 63],
 }
 
 pub enum Answer {
@@ -69,11 +71,18 @@ impl Chain {
         b.set_svd_epsilon(epsilon);
         b.init(n, 64).unwrap();
         crate::backend::set_norm_clamp_min(clamp);
-        Ok(Chain { b, d, exponent, clamp, lent })
+        Ok(Chain { b, d, exponent, clamp, lent, by_bond: [0.0; 63] })
     }
 
     fn short(&self) -> bool {
         self.lent.work < work_needed(self.d) || self.lent.store < 4 * self.b.num_qubits * self.d * self.d
+    }
+
+    /// To each bond's figure the shares of its cuts, in their order.
+    fn add_shares(&mut self, shares: Shares) {
+        for (k, share) in shares.added {
+            self.by_bond[k] += share;
+        }
     }
 
     pub fn gate(&mut self, q0: usize, q1: usize, g: &Gate4) -> Answer {
@@ -89,7 +98,10 @@ impl Chain {
             return Answer::Refused(5);
         }
         let b = &mut self.b;
-        match catch_unwind(AssertUnwindSafe(|| b.apply_two_qubit_gate(g, q0, q1))) {
+        begin_shares();
+        let ran = catch_unwind(AssertUnwindSafe(|| b.apply_two_qubit_gate(g, q0, q1)));
+        self.add_shares(take_shares());
+        match ran {
             Ok(Ok(())) => Answer::Done,
             Ok(Err(PrismError::Workspace(_))) => Answer::Refused(6),
             Err(p) => {
@@ -180,7 +192,7 @@ impl Chain {
         20 * a.bond_left * b.bond_right + 2 * a.bond_right * b.bond_right
     }
 
-    /// Is the record sound in document 01's sense (held after every call)?
+    /// Is the record sound in the sense of documents 01 and 02 (held after every call)?
     pub fn sound(&self) -> bool {
         let b = &self.b;
         let n = b.num_qubits;
@@ -197,6 +209,7 @@ impl Chain {
             && b.bond_high_water <= self.d
             && (0..n).all(|i| b.site_to_logical[b.logical_to_site[i]] == i)
             && b.center.is_none_or(|c| c < n)
+            && self.by_bond[n - 1..].iter().all(|x| x.to_bits() == 0)
     }
 
     pub fn dump(&self) -> String {
@@ -212,6 +225,10 @@ impl Chain {
         let _ = write!(o, "# qubits by site");
         for q in &b.site_to_logical {
             let _ = write!(o, " {q}");
+        }
+        let _ = write!(o, "\n# discarded by bond");
+        for &x in &self.by_bond[..b.num_qubits - 1] {
+            let _ = write!(o, " {}", hex(x));
         }
         let _ = writeln!(o);
         for (i, t) in b.sites.iter().enumerate() {
@@ -256,6 +273,7 @@ pub struct State {
     pub center: Option<usize>,
     pub high: usize,
     pub discarded: f64,
+    pub by_bond: [f64; 63],
     pub data: Vec<Vec<Complex64>>,
 }
 
@@ -272,6 +290,7 @@ impl Chain {
         c.b.center = s.center;
         c.b.bond_high_water = s.high;
         c.b.truncation_discarded = s.discarded;
+        c.by_bond = s.by_bond;
         c
     }
 
@@ -285,6 +304,7 @@ impl Chain {
             center: b.center,
             high: b.bond_high_water,
             discarded: b.truncation_discarded,
+            by_bond: self.by_bond,
             data: b.sites.iter().map(|t| t.data.clone()).collect(),
         }
     }

@@ -58,6 +58,7 @@ struct Record {
     center: Option<usize>,
     high: usize,
     discarded: f64,
+    by_bond: [f64; 63],
 }
 fn unit(x: f64) -> bool {
     x >= 0.0 && x < 1.0
@@ -67,17 +68,17 @@ impl Record {
         let z = vec![0; 64];
         Record {
             n: 0, d: 0, exponent: 0, epsilon: 0.0, clamp: 0.0, bl: z.clone(), br: z.clone(), l2s: z.clone(),
-            s2l: z.clone(), flags: z, center: None, high: 0, discarded: 0.0,
+            s2l: z.clone(), flags: z, center: None, high: 0, discarded: 0.0, by_bond: [0.0; 63],
         }
     }
     fn read(w: &mut Words) -> Record {
         Record {
             n: w.size(), d: w.size(), exponent: w.size(), epsilon: w.number(), clamp: w.number(), bl: w.list(),
             br: w.list(), l2s: w.list(), s2l: w.list(), flags: w.list(), center: w.size().checked_sub(1),
-            high: w.size(), discarded: w.number(),
+            high: w.size(), discarded: w.number(), by_bond: std::array::from_fn(|_| w.number()),
         }
     }
-    /// Document 01, "A record is sound if", with the exponents of W9.
+    /// Document 01, "A record is sound if", with the exponents of W9, and W6: the figures past the last bond are +0.
     fn sound(&self) -> bool {
         let n = self.n;
         let ranges = (1..=64).contains(&n) && (1..=128).contains(&self.d) && self.exponent <= 255 && unit(self.epsilon) && unit(self.clamp);
@@ -90,6 +91,7 @@ impl Record {
             && (0..n).all(|i| self.l2s[i] < n && self.s2l[i] < n && self.s2l[self.l2s[i]] == i && self.l2s[self.s2l[i]] == i)
             && self.center.is_none_or(|c| c < n)
             && (n..64).all(|i| self.bl[i] == 0 && self.br[i] == 0 && self.l2s[i] == 0 && self.s2l[i] == 0)
+            && (n - 1..63).all(|i| self.by_bond[i].to_bits() == 0)
     }
     fn chain(&self, store: &[f64], lent: Lent) -> Chain {
         let slot = 4 * self.d * self.d;
@@ -108,6 +110,7 @@ impl Record {
             center: self.center,
             high: self.high,
             discarded: self.discarded,
+            by_bond: self.by_bond,
             data,
         };
         Chain::load(self.n, self.d, self.exponent, self.epsilon, self.clamp, lent, &s)
@@ -120,6 +123,7 @@ impl Record {
             bl: pad(s.bonds.iter().map(|b| b.0).collect()), br: pad(s.bonds.iter().map(|b| b.1).collect()),
             l2s: pad(s.logical_to_site), s2l: pad(s.site_to_logical),
             flags: s.flags.iter().map(|&b| b as usize).collect(), center: s.center, high: s.high, discarded: s.discarded,
+            by_bond: s.by_bond,
         }
     }
 }
@@ -146,6 +150,9 @@ impl Out {
         self.word(r.center.map_or(0, |c| c as u64 + 1));
         self.word(r.high as u64);
         self.number(r.discarded);
+        for x in r.by_bond {
+            self.number(x);
+        }
     }
     fn complexes(&mut self, v: &[Complex64]) {
         self.numbers(&v.iter().flat_map(|z| [z.re, z.im]).collect::<Vec<_>>());

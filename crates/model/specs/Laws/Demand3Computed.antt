@@ -6,7 +6,7 @@ use mathlib.Core.List.{List, [], _∷_}
 use Prim.Native.Nat.{ℕ, _+_}
 use lib.Dec.{eqb}
 use lib.ListN.{replicate}
-use lib.Ieee.{Float, sub, mul, div, le, isNan, ofBits}
+use lib.Ieee.{Float, sub, mul, div, le, isNan, ofBits, toBits}
 use Rattle.complex.specs.Complex.{addC, conjC, mulC, normSqr, scaleC, zeroF, oneF, zeroC}
 use Rattle.complex.specs.Loops.{each, between, tabulate, every}
 use Rattle.complex.specs.Numbers.{at, store, numbers}
@@ -27,7 +27,7 @@ use Rattle.model.specs.Cut.{cutWith, attempt, adjacent}
 use Rattle.model.specs.Routing.{stepped, runSteps, gateRun}
 use Rattle.model.specs.Born as born
 use Rattle.model.specs.Born.{projectedSite, projectedAt}
-use Rattle.model.specs.Sound.{settingsFit, bondsFit, undoes, sized, sound}
+use Rattle.model.specs.Sound.{settingsFit, bondsFit, undoes, discardedFits, sized, sound}
 use Rattle.model.specs.Start.{freshChain, freshStore}
 use Rattle.model.specs.Answers.{accepted, none, weight}
 use Rattle.model.specs.Calls.{gateCall, projectCall, cleared}
@@ -48,5 +48,5 @@ abbrev fresh : State
 fresh = held (freshChain 2 1 zeroF zeroF 5) (freshStore 2 1 [])
 
 pub flipped-twice : answersOf calls fresh ≡ accepted none ∷ accepted (weight oneF) ∷ accepted none ∷ accepted (weight oneF) ∷ []
-unfolding sub mul div le isNan ofBits addC conjC mulC normSqr scaleC each between tabulate every at store numbers rows finiteC allFinite gateOf rootOf filled l2Norm scaledTo zeroed passOf passesOf keptOf columnOf raised qr skipped pairStep rowOfPairs sweep sweeps identityAt normalised factored earlier later orderOf anyNan values svd rank resolvable share matrixOf pairSvd isometrySite scaledSite vtSite scaledVtSite absorbedRight stepRight absorbedLeft stepLeft walkRight walkLeft moved established cutWith attempt adjacent stepped runSteps gateRun born.weight projectedSite projectedAt settingsFit bondsFit undoes sized sound freshChain freshStore gateCall projectCall cleared
+unfolding sub mul div le isNan ofBits toBits addC conjC mulC normSqr scaleC each between tabulate every at store numbers rows finiteC allFinite gateOf rootOf filled l2Norm scaledTo zeroed passOf passesOf keptOf columnOf raised qr skipped pairStep rowOfPairs sweep sweeps identityAt normalised factored earlier later orderOf anyNan values svd rank resolvable share matrixOf pairSvd isometrySite scaledSite vtSite scaledVtSite absorbedRight stepRight absorbedLeft stepLeft walkRight walkLeft moved established cutWith attempt adjacent stepped runSteps gateRun born.weight projectedSite projectedAt settingsFit bondsFit undoes discardedFits sized sound freshChain freshStore gateCall projectCall cleared
 flipped-twice = refl

@@ -26,13 +26,14 @@ use Rattle.model.specs.Cut.{Ran}
 use Rattle.model.specs.Lists.{Call, gate, named, project, measure, reset, stateOf, answerOf}
 use Rattle.model.specs.Statements.Table.{Row, _when_, AboveWorkspace, NanIn, FirstGround, NoPair, gateTable, gateSteps, cutRows}
 use Rattle.model.specs.Statements.Demand1.{Late, Early}
-use Rattle.model.specs.Statements.Demand1Cuts.{StandsBySix, StandsBySeven, StopsAt, GateEnds, Stops, labelsAfter}
+use Rattle.model.specs.Statements.Demand1Cuts.{StandsBySix, StandsBySeven, sharesOf, StopsAt, GateEnds, Stops, labelsAfter}
 use Rattle.model.specs.Laws.SoundKept.{Inside, stepped-keeps, accepted-gate, gate-accepted}
 use Rattle.model.specs.Laws.Refusals.{decides-unsound, decides-short, decides-gate, applied-number, first-of, number-picked, run-late, gate-least}
 use Rattle.model.specs.Laws.CutEnds.{CutEnds, above, nan, stored, adjacent-ends, stepped-number, refused-narrowed, stepped-refused, run-on}
 use Rattle.model.specs.Statements.Soundness.{Sound}
 use Rattle.model.specs.Laws.MoveLaws.{AsBefore}
-use Rattle.model.specs.Laws.CutShares.{run-discarded, project-reads, measure-reads, reset-reads}
+use Rattle.model.specs.Laws.CutShares.{Tally, tallied, counted, of-chain, run-tallied, project-reads, measure-reads, reset-reads}
+use Rattle.model.specs.Laws.BondShares.{of-bond}
 use Rattle.model.specs.Laws.RouteLabels.{run-labels, gate-labels}
 use Rattle.model.specs.Laws.AfterStates.{gate-leaves}
 use Rattle.model.specs.Laws.Tests.{Decides, by-test, decides-as, decides-either, decides-equal, decides-least}
@@ -161,16 +162,19 @@ module _ (x : Step) (t : State) (reason : Reason) (work : List Float) where
   stands r (stored a n e) z = absurd (z (ap (λ (y : Ran). y .refused) e))
 
 stopped : (steps : List Step) (s : State) (reason : Reason) (work : List Float) (r : Ran) → Sound (s .chain) → r .refused ≢ 0 → Stopped steps s r → StopsAt steps s (gateAfter reason r work)
-stopped steps s reason work r h refused z = record {
-  before = z .before;
-  cut = z .cut;
-  rest = z .rest;
-  route = z .route;
-  done = z .done;
-  stands = stands (z .cut) (runSteps (z .before) s .state) reason work r (z .ends) refused;
-  weight = (λ i. z .same .totals i .discarded) ∙ run-discarded (z .before) s h (z .within);
-  labels = z .same .labels ∙ run-labels (z .before) s h (z .within) (z .done);
-}
+stopped steps s reason work r h refused z =
+    let weighs : (y : Tally) → tallied y (r .state) ≡ counted y (tallied y s) (sharesOf (z .before) s) = λ y. ap (y .figure) (z .same .totals) ∙ run-tallied y (z .before) s h (z .within) in
+    record {
+      before = z .before;
+      cut = z .cut;
+      rest = z .rest;
+      route = z .route;
+      done = z .done;
+      stands = stands (z .cut) (runSteps (z .before) s .state) reason work r (z .ends) refused;
+      weight = weighs of-chain;
+      bond-weight = λ k. weighs (of-bond k);
+      labels = z .same .labels ∙ run-labels (z .before) s h (z .within) (z .done);
+    }
 
 -- ---- a gate
 

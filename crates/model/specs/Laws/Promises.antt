@@ -6,6 +6,7 @@ use Rattle.model.specs.Laws.Demand1Proofs as demand1
 use Rattle.model.specs.Laws.Gates as gates
 use Rattle.model.specs.Laws.PinnedProof as pins
 use Rattle.model.specs.Laws.CutShares as shares
+use Rattle.model.specs.Laws.BondShares as bonds
 use Rattle.model.specs.Laws.JacobiLaws as jacobi
 use Rattle.model.specs.Laws.OrderLaws as order
 use Rattle.model.specs.Laws.SvdLaws as svd
@@ -60,5 +61,6 @@ promised = record {
   rank-reasons = reasons.rank-reasons;
   rank-by-reason = reasons.rank-by-reason;
   gate-reasons = reasons.gate-reasons;
+  bond-weights = bonds.bond-weights;
   marked = examples.marked;
 }

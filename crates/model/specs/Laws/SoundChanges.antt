@@ -8,7 +8,7 @@ use native.Mathlib.Decide.{ℕ-discrete}
 use native.Mathlib.Omega.{arith}
 use lib.ListN.{length, getD, set, length-set}
 use lib.Seq.{getD-set-same, getD-set-other}
-use lib.Ieee.{Float, lt, mul, binary64}
+use lib.Ieee.{Float, nan, lt, mul, binary64, toBits}
 use lib.Dec.{ltb, eqb, T, ltb→lt}
 use borrow.Author.Tests.{eqb-false}
 use lib.Ieee.Fits.{and-l}
@@ -16,10 +16,11 @@ use Rattle.complex.specs.Loops.{each-keeps}
 use Rattle.model.specs.declared.Center.{Center}
 use Rattle.model.specs.declared.Center.the-variants.{At}
 use Rattle.model.specs.declared.Chain.{Chain}
-use Rattle.model.specs.Chain.{withCenter, withBond, withBits, withTruncation, labelsOf}
+use Rattle.model.specs.Chain.{withCenter, withBond, withBits, labelsOf}
 use Rattle.model.specs.Routing.{relabelled}
 use Rattle.model.specs.Qr.{Passed, Kept, keptOf, columnOf, raised, qr, rankTolerance}
 use Rattle.model.specs.Truncation.{rank}
+use Rattle.model.specs.Cut.{cutRecorded}
 use Rattle.model.specs.Statements.Soundness.{Bonds, Sound}
 use Rattle.model.specs.Laws.Labels.{sound-maps, exchanged-maps}
 use Rattle.model.specs.Laws.Tests.{either-way, by-test}
@@ -33,7 +34,7 @@ after-set P l i j b h here there = choose (ℕ-discrete j i)
     choose (yes e) = let v : getD (set l i b) j 0 ≡ b = ap (λ (m : ℕ). getD (set l i b) m 0) e ∙ getD-set-same l i b 0 h in rw v (here e)
     choose (no e) = rw (getD-set-other l i j b 0 e) (there e)
 
--- ---- the centre, the flags, and the high water raised
+-- ---- the centre, and the flags
 
 module _ (c : Chain) (h : Sound c) where
   pub center-sound : (at : Center) → ((k : ℕ) → at ≡ At k → k < c .«num_qubits») → Sound (withCenter c at)
@@ -44,7 +45,8 @@ module _ (c : Chain) (h : Sound c) where
     sites = h .sites;
     qubits = h .qubits;
     centre = l;
-    sizes = record { lefts = h .sizes .lefts; rights = h .sizes .rights; sites = h .sizes .sites; qubits = h .sizes .qubits; bits = h .sizes .bits };
+    past-last-bond = h .past-last-bond;
+    sizes = record { lefts = h .sizes .lefts; rights = h .sizes .rights; sites = h .sizes .sites; qubits = h .sizes .qubits; bits = h .sizes .bits; by-bond = h .sizes .by-bond };
   }
 
   pub bits-sound : (bits : List Bool) → length bits ≡ 64 → Sound (withBits c bits)
@@ -55,27 +57,39 @@ module _ (c : Chain) (h : Sound c) where
     sites = h .sites;
     qubits = h .qubits;
     centre = h .centre;
-    sizes = record { lefts = h .sizes .lefts; rights = h .sizes .rights; sites = h .sizes .sites; qubits = h .sizes .qubits; bits = l };
+    past-last-bond = h .past-last-bond;
+    sizes = record { lefts = h .sizes .lefts; rights = h .sizes .rights; sites = h .sizes .sites; qubits = h .sizes .qubits; bits = l; by-bond = h .sizes .by-bond };
   }
 
-  pub truncation-sound : (high : ℕ) (discarded : Float) → c .«bond_high_water» ≤ high → high ≤ c .«max_bond_dim» → Sound (withTruncation c high discarded)
-  truncation-sound high discarded l m = record {
-    settings = h .settings;
-    high-water = (omega (arith, h .high-water .0), m);
-    bonds = record {
-      first = h .bonds .first;
-      last = h .bonds .last;
-      neighbours = h .bonds .neighbours;
-      left-range = λ k below. (h .bonds .left-range k below .0, omega (arith, h .bonds .left-range k below .1));
-      right-range = λ k below. (h .bonds .right-range k below .0, omega (arith, h .bonds .right-range k below .1));
-      left-past = h .bonds .left-past;
-      right-past = h .bonds .right-past;
-    };
-    sites = h .sites;
-    qubits = h .qubits;
-    centre = h .centre;
-    sizes = record { lefts = h .sizes .lefts; rights = h .sizes .rights; sites = h .sizes .sites; qubits = h .sizes .qubits; bits = h .sizes .bits };
-  }
+-- ---- what a cut of the bond between k and k + 1 records
+
+-- the widest bond raised, and the discarded weights with the shares; those past the last bond are not touched
+pub recorded-sound : (c : Chain) → Sound c → (k chi : ℕ) (shares : List Float) → k + 1 < c .«num_qubits» → chi ≤ c .«max_bond_dim» → Sound (cutRecorded k chi shares c)
+recorded-sound c h k chi shares inside most = record {
+  settings = h .settings;
+  high-water = (omega (arith, h .high-water .0), omega (arith, h .high-water .1));
+  bonds = record {
+    first = h .bonds .first;
+    last = h .bonds .last;
+    neighbours = h .bonds .neighbours;
+    left-range = λ i below. (h .bonds .left-range i below .0, omega (arith, h .bonds .left-range i below .1));
+    right-range = λ i below. (h .bonds .right-range i below .0, omega (arith, h .bonds .right-range i below .1));
+    left-past = h .bonds .left-past;
+    right-past = h .bonds .right-past;
+  };
+  sites = h .sites;
+  qubits = h .qubits;
+  centre = h .centre;
+  past-last-bond = λ j l m. ap (toBits binary64) (getD-set-other (c .«bond_discarded») k j _ nan (omega arith)) ∙ h .past-last-bond j l m;
+  sizes = record {
+    lefts = h .sizes .lefts;
+    rights = h .sizes .rights;
+    sites = h .sizes .sites;
+    qubits = h .sizes .qubits;
+    bits = h .sizes .bits;
+    by-bond = rw length-set (h .sizes .by-bond);
+  };
+}
 
 -- ---- the bond between two sites of the chain
 
@@ -104,7 +118,8 @@ bond-sound c h k bond inside low high = record {
   sites = h .sites;
   qubits = h .qubits;
   centre = h .centre;
-  sizes = record { lefts = rw length-set (h .sizes .lefts); rights = rw length-set (h .sizes .rights); sites = h .sizes .sites; qubits = h .sizes .qubits; bits = h .sizes .bits };
+  past-last-bond = h .past-last-bond;
+  sizes = record { lefts = rw length-set (h .sizes .lefts); rights = rw length-set (h .sizes .rights); sites = h .sizes .sites; qubits = h .sizes .qubits; bits = h .sizes .bits; by-bond = h .sizes .by-bond };
 }
 
 -- ---- the labels of two neighbours exchanged
@@ -119,12 +134,14 @@ relabelled-sound c h k inside =
       sites = x .sites;
       qubits = x .qubits;
       centre = h .centre;
+      past-last-bond = h .past-last-bond;
       sizes = record {
         lefts = h .sizes .lefts;
         rights = h .sizes .rights;
         sites = rw (length-set, length-set) (h .sizes .sites);
         qubits = rw (length-set, length-set) (h .sizes .qubits);
         bits = h .sizes .bits;
+        by-bond = h .sizes .by-bond;
       };
     }
 

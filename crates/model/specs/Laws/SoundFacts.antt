@@ -7,7 +7,7 @@ use mathlib.Core.List.{List}
 use native.Mathlib.Omega.{arith}
 use lib.Dec.{T, leb, ltb, eqb, leb→le, le→leb, ltb→lt, lt→ltb, eqb→eq}
 use lib.ListN.{length, getD, List·getD-eq-default}
-use lib.Ieee.{Float, le, lt}
+use lib.Ieee.{Float, nan, binary64, le, lt, toBits}
 use lib.Ieee.Fits.{and-l, and-r, and-i, eq→eqb}
 use Rattle.complex.specs.Complex.{zeroF, oneF}
 use Rattle.complex.specs.Loops.{every, every-at, every-of}
@@ -15,13 +15,13 @@ use Rattle.model.specs.declared.Center.{Center}
 use Rattle.model.specs.declared.Center.the-variants.{Unknown, At}
 use Rattle.model.specs.declared.Chain.{Chain}
 use Rattle.model.specs.Chain.{bondLeft, bondRight}
-use Rattle.model.specs.Sound.{within, share01, settingsFit, entryFits, bondsFit, undoes, centerFits, sized, sound}
+use Rattle.model.specs.Sound.{within, share01, settingsFit, entryFits, bondsFit, undoes, centerFits, discardedFits, sized, sound}
 use Rattle.model.specs.Statements.Soundness.{Settings, Bonds, Undone, Sized, Sound}
 use Rattle.model.specs.Laws.Tests.{below-or-past, or-first, or-second, or-test}
 
 -- ---- tests and facts
 
--- a conjunction of five tests, and of seven
+-- a conjunction of five tests, of six, and of eight
 module _ (a b c d e : Bool) where
   five : T (a && b && c && d && e) → T a × T b × T c × T d × T e
   five h =
@@ -33,15 +33,24 @@ module _ (a b c d e : Bool) where
   of-five : T a → T b → T c → T d → T e → T (a && b && c && d && e)
   of-five ha hb hc hd he = and-i (a && b && c && d) e (and-i (a && b && c) d (and-i (a && b) c (and-i a b ha hb) hc) hd) he
 
-  module _ (f g : Bool) where
-    seven : T (a && b && c && d && e && f && g) → T a × T b × T c × T d × T e × T f × T g
-    seven h =
-        let h6 = and-l (a && b && c && d && e && f) g h in
-        let t = five (and-l (a && b && c && d && e) f h6) in
-        (t .0, t .1, t .2, t .3, t .4, and-r (a && b && c && d && e) f h6, and-r (a && b && c && d && e && f) g h)
+  module _ (f : Bool) where
+    six : T (a && b && c && d && e && f) → T a × T b × T c × T d × T e × T f
+    six h =
+        let t = five (and-l (a && b && c && d && e) f h) in
+        (t .0, t .1, t .2, t .3, t .4, and-r (a && b && c && d && e) f h)
 
-    of-seven : T a → T b → T c → T d → T e → T f → T g → T (a && b && c && d && e && f && g)
-    of-seven ha hb hc hd he hf hg = and-i (a && b && c && d && e && f) g (and-i (a && b && c && d && e) f (of-five ha hb hc hd he) hf) hg
+    of-six : T a → T b → T c → T d → T e → T f → T (a && b && c && d && e && f)
+    of-six ha hb hc hd he hf = and-i (a && b && c && d && e) f (of-five ha hb hc hd he) hf
+
+    module _ (g k : Bool) where
+      eight : T (a && b && c && d && e && f && g && k) → T a × T b × T c × T d × T e × T f × T g × T k
+      eight h =
+          let h7 = and-l (a && b && c && d && e && f && g) k h in
+          let t = six (and-l (a && b && c && d && e && f) g h7) in
+          (t .0, t .1, t .2, t .3, t .4, t .5, and-r (a && b && c && d && e && f) g h7, and-r (a && b && c && d && e && f && g) k h)
+
+      of-eight : T a → T b → T c → T d → T e → T f → T g → T k → T (a && b && c && d && e && f && g && k)
+      of-eight ha hb hc hd he hf hg hk = and-i (a && b && c && d && e && f && g) k (and-i (a && b && c && d && e && f) g (of-six ha hb hc hd he hf) hg) hk
 
 within-range : (low high x : ℕ) → T (within low high x) → (low ≤ x) × (x ≤ high)
 within-range low high x h = (leb→le low x (and-l (leb low x) (leb x high) h), leb→le x high (and-r (leb low x) (leb x high) h))
@@ -165,6 +174,22 @@ facts-centre : (at : Center) (n : ℕ) → ((k : ℕ) → at ≡ At k → k < n)
 facts-centre Unknown n h = tt
 facts-centre (At k) n h = lt→ltb k n (h k refl)
 
+-- the discarded weights past the last bond
+module _ (n : ℕ) (xs : List Float) where
+  abbrev entryFree : ℕ → Bool
+  entryFree k = ltb (k + 1) n || eqb (toBits binary64 (getD xs k nan)) 0
+
+  discarded-facts : T (discardedFits n xs) → (k : ℕ) → n ≤ k + 1 → k < 63 → toBits binary64 (getD xs k nan) ≡ 0
+  unfolding discardedFits
+  discarded-facts h k l m = eqb→eq _ 0 (or-test (ltb (k + 1) n) _ (every-at 63 entryFree k m h) (λ t. let b = ltb→lt (k + 1) n t in omega arith))
+
+  facts-discarded : ((k : ℕ) → n ≤ k + 1 → k < 63 → toBits binary64 (getD xs k nan) ≡ 0) → T (discardedFits n xs)
+  unfolding discardedFits
+  facts-discarded h = every-of 63 entryFree (λ k m. ⊎-elim
+      (λ (l : k + 1 < n). or-first (ltb (k + 1) n) _ (lt→ltb (k + 1) n l))
+      (λ (l : n ≤ k + 1). or-second (ltb (k + 1) n) _ (eq→eqb (h k l m)))
+      (below-or-past (k + 1) n))
+
 module _ (c : Chain) where
   abbrev long : {A : Type 0} → List A → Bool
   long xs = eqb (length xs) 64
@@ -172,20 +197,21 @@ module _ (c : Chain) where
   sized-facts : T (sized c) → Sized c
   unfolding sized
   sized-facts h =
-      let t = five (long (c .«bond_left»)) (long (c .«bond_right»)) (long (c .«logical_to_site»)) (long (c .«site_to_logical»)) (long (c .«classical_bits»)) h in
+      let t = six (long (c .«bond_left»)) (long (c .«bond_right»)) (long (c .«logical_to_site»)) (long (c .«site_to_logical»)) (long (c .«classical_bits»)) (eqb (length (c .«bond_discarded»)) 63) h in
       record {
         lefts = eqb→eq _ 64 (t .0);
         rights = eqb→eq _ 64 (t .1);
         sites = eqb→eq _ 64 (t .2);
         qubits = eqb→eq _ 64 (t .3);
         bits = eqb→eq _ 64 (t .4);
+        by-bond = eqb→eq _ 63 (t .5);
       }
 
   facts-sized : Sized c → T (sized c)
   unfolding sized
   facts-sized h =
-      of-five (long (c .«bond_left»)) (long (c .«bond_right»)) (long (c .«logical_to_site»)) (long (c .«site_to_logical»)) (long (c .«classical_bits»))
-      (eq→eqb (h .lefts)) (eq→eqb (h .rights)) (eq→eqb (h .sites)) (eq→eqb (h .qubits)) (eq→eqb (h .bits))
+      of-six (long (c .«bond_left»)) (long (c .«bond_right»)) (long (c .«logical_to_site»)) (long (c .«site_to_logical»)) (long (c .«classical_bits»)) (eqb (length (c .«bond_discarded»)) 63)
+      (eq→eqb (h .lefts)) (eq→eqb (h .rights)) (eq→eqb (h .sites)) (eq→eqb (h .qubits)) (eq→eqb (h .bits)) (eq→eqb (h .by-bond))
 
   -- ---- the test passes exactly where the propositions hold
 
@@ -201,13 +227,16 @@ module _ (c : Chain) where
   abbrev qubitsTest : Bool
   qubitsTest = undoes (c .«num_qubits») (c .«site_to_logical») (c .«logical_to_site»)
 
+  abbrev discardedTest : Bool
+  discardedTest = discardedFits (c .«num_qubits») (c .«bond_discarded»)
+
   pub sound-facts : T (sound c) → Sound c
   unfolding sound
   sound-facts h =
-      let t = seven settingsTest waterTest (bondsFit c) sitesTest qubitsTest (centerFits (c .center) (c .«num_qubits»)) (sized c) h in
+      let t = eight settingsTest waterTest (bondsFit c) sitesTest qubitsTest (centerFits (c .center) (c .«num_qubits»)) discardedTest (sized c) h in
       let settings = settings-facts (c .«num_qubits») (c .«max_bond_dim») (c .«svd_epsilon») (c .«norm_clamp_min») (c .«workspace_exponent») (t .0) in
       let most : c .«num_qubits» ≤ 64 = settings .qubits .1 in
-      let z = sized-facts (t .6) in
+      let z = sized-facts (t .7) in
       record {
         settings = settings;
         high-water = within-range 1 (c .«max_bond_dim») (c .«bond_high_water») (t .1);
@@ -215,19 +244,21 @@ module _ (c : Chain) where
         sites = undone-facts (c .«num_qubits») (c .«logical_to_site») (c .«site_to_logical») most (z .sites) (t .3);
         qubits = undone-facts (c .«num_qubits») (c .«site_to_logical») (c .«logical_to_site») most (z .qubits) (t .4);
         centre = centre-facts (c .center) (c .«num_qubits») (t .5);
+        past-last-bond = discarded-facts (c .«num_qubits») (c .«bond_discarded») (t .6);
         sizes = z;
       }
 
   pub facts-sound : Sound c → T (sound c)
   unfolding sound
   facts-sound h =
-      of-seven settingsTest waterTest (bondsFit c) sitesTest qubitsTest (centerFits (c .center) (c .«num_qubits»)) (sized c)
+      of-eight settingsTest waterTest (bondsFit c) sitesTest qubitsTest (centerFits (c .center) (c .«num_qubits»)) discardedTest (sized c)
       (facts-settings (c .«num_qubits») (c .«max_bond_dim») (c .«svd_epsilon») (c .«norm_clamp_min») (c .«workspace_exponent») (h .settings))
       (range-within 1 (c .«max_bond_dim») (c .«bond_high_water») (h .high-water))
       (facts-bonds c (h .bonds))
       (facts-undone (c .«num_qubits») (c .«logical_to_site») (c .«site_to_logical») (h .sites))
       (facts-undone (c .«num_qubits») (c .«site_to_logical») (c .«logical_to_site») (h .qubits))
       (facts-centre (c .center) (c .«num_qubits») (h .centre))
+      (facts-discarded (c .«num_qubits») (c .«bond_discarded») (h .past-last-bond))
       (facts-sized (h .sizes))
 
 -- ---- no bond is above the cap

@@ -17,12 +17,12 @@ use Rattle.model.specs.declared.Center.the-variants.{At}
 use Rattle.model.specs.declared.Chain.{Chain}
 use Rattle.model.specs.declared.WeightSide.{WeightSide}
 use Rattle.model.specs.declared.WeightSide.the-variants.{Left, Right}
-use Rattle.model.specs.Chain.{settingsOf, siteOf, withBond, withTruncation}
+use Rattle.model.specs.Chain.{settingsOf, siteOf, withBond}
 use Rattle.model.specs.Slots.{State, held, lefts, rights}
 use Rattle.model.specs.Svd.{Svd, values, rawValue, anyNan}
-use Rattle.model.specs.Truncation.{resolvable, share, recorded, workspace}
+use Rattle.model.specs.Truncation.{resolvable, share, workspace}
 use Rattle.model.specs.Moves.{moved, established, Prepared}
-use Rattle.model.specs.Cut.{Tried, weightSite, cutStored, concluded, cutWith, attempt, Ran, ran, adjacent, rankOf, keepsCentre, preparedFor}
+use Rattle.model.specs.Cut.{Tried, weightSite, cutRecorded, cutStored, concluded, cutWith, attempt, Ran, ran, adjacent, rankOf, keepsCentre, preparedFor}
 use Rattle.model.specs.Routing.{downTo, routeOf, Step, swapStep, stepsOf, relabelled, follow, stepped, runSteps, gateRun}
 use Rattle.model.specs.Born.{weightAt, drawnAt, projectedAt, resetAt, readied}
 use Rattle.model.specs.Sound.{sound}
@@ -31,7 +31,7 @@ use Rattle.model.specs.Statements.Table.{gateSteps}
 use Rattle.model.specs.Laws.Labels.{sound-maps, sites-apart}
 use Rattle.model.specs.Laws.Refusals.{project-passes, measure-passes, reset-passes, passes-sound, Passes, firstOf-none, two-qubits}
 use Rattle.model.specs.Statements.Soundness.{Sound}
-use Rattle.model.specs.Laws.SoundChanges.{center-sound, bits-sound, truncation-sound, bond-sound, relabelled-sound, cut-rank-least, cut-rank-most}
+use Rattle.model.specs.Laws.SoundChanges.{center-sound, bits-sound, recorded-sound, bond-sound, relabelled-sound, cut-rank-least, cut-rank-most}
 use Rattle.model.specs.Laws.MoveLaws.{lastSite, Narrowed, narrowed-none, narrowed-then, moved-narrowed, established-narrowed, readied-by, prepared-by}
 use Rattle.model.specs.Laws.Tests.{by-test, either-way}
 
@@ -97,12 +97,11 @@ module _ (k : ℕ) (maintained : Bool) (side : WeightSide) (s : State) (h : Soun
   cutStored-keeps =
       let c = s .chain in
       let kept = rankOf s d in
-      let high = max (c .«bond_high_water») kept in
-      let x = recorded (c .«truncation_discarded») (share (values d) kept) in
       let least : 1 ≤ kept = cut-rank-least (c .«svd_epsilon») (c .«max_bond_dim») (values d) (h .settings .cap .0) in
       let most : kept ≤ c .«max_bond_dim» = cut-rank-most (c .«svd_epsilon») (c .«max_bond_dim») (values d) in
-      let bonded = bond-sound (withTruncation c high x) (truncation-sound c h high x (omega arith) (omega (arith, h .high-water .1))) k kept inside least (omega arith) in
-      keeps-by (center-sound (withBond (withTruncation c high x) k kept) bonded _ (stored-centre (s .chain .«num_qubits») k inside maintained side (s .chain .center) (h .centre))) refl
+      let shares = share (values d) kept in
+      let bonded = bond-sound (cutRecorded k kept shares c) (recorded-sound c h k kept shares inside most) k kept inside least (omega arith) in
+      keeps-by (center-sound (withBond (cutRecorded k kept shares c) k kept) bonded _ (stored-centre (s .chain .«num_qubits») k inside maintained side (s .chain .center) (h .centre))) refl
 
   concluded-keeps : Keeps (s .chain) (concluded k maintained side s d .state .chain)
   concluded-keeps =

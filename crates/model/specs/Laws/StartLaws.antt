@@ -8,9 +8,9 @@ use native.Mathlib.Decide.{ℕ-discrete}
 use native.Mathlib.Omega.{arith}
 use lib.Dec.{T, ltb}
 use borrow.Author.Tests.{ltb-false, lt-ltb, le-ltb, not-false}
-use lib.ListN.{length, getD, take, drop, length-append, length-drop, length-replicate, List·getD-eq-default}
+use lib.ListN.{length, getD, take, drop, length-append, length-drop, length-replicate, getD-replicate, List·getD-eq-default}
 use lib.Seq.{drop-at, take-at}
-use lib.Ieee.{Float}
+use lib.Ieee.{Float, nan, binary64, ofBits, toBits}
 use Rattle.complex.specs.Complex.{zeroF, oneF}
 use Rattle.complex.specs.Loops.{length-tabulate, getD-tabulate}
 use Rattle.complex.specs.Parts.{part}
@@ -52,7 +52,7 @@ upTo-undone n most = record {
 
 module _ (n d : ℕ) (epsilon clamp : Float) (exponent : ℕ) where
   pub fresh-sound : Settings n d epsilon clamp exponent → Sound (freshChain n d epsilon clamp exponent)
-  unfolding freshChain
+  unfolding freshChain ofBits toBits
   fresh-sound h =
       let some : 1 ≤ n = h .qubits .0 in
       let most : n ≤ 64 = h .qubits .1 in
@@ -73,12 +73,14 @@ module _ (n d : ℕ) (epsilon clamp : Float) (exponent : ℕ) where
         sites = upTo-undone n most;
         qubits = upTo-undone n most;
         centre = λ k e. let z : _≡_ {A = ℕ} 0 1 = cc in absurd (omega arith);
+        past-last-bond = λ k l m. ap (toBits binary64) (getD-replicate 63 k zeroF nan m);
         sizes = record {
           lefts = length-upTo n (λ i. 1);
           rights = length-upTo n (λ i. 1);
           sites = length-upTo n (λ i. i);
           qubits = length-upTo n (λ i. i);
           bits = length-replicate 64 false;
+          by-bond = length-replicate 63 zeroF;
         };
       }
 

@@ -23,14 +23,14 @@ use Rattle.model.specs.declared.Center.the-variants.{At}
 use Rattle.model.specs.declared.WeightSide.{WeightSide}
 use Rattle.model.specs.declared.WeightSide.the-variants.{Left, Right}
 use Rattle.model.specs.declared.Projected.the-variants as projected
-use Rattle.model.specs.Chain.{withBond, withCenter, withTruncation}
+use Rattle.model.specs.Chain.{withBond, withCenter}
 use Rattle.model.specs.Slots.{State, held, lefts, rights, slotRoom, storeRoom, slotOf, filled, withSite, siteAt}
 use Rattle.model.specs.Svd.{Svd, values, uAt, vtAt, valueAt}
 use Rattle.model.specs.Truncation.{rank, share, recorded, workspace}
 use Rattle.model.specs.Qr.{Kept, qr}
 use Rattle.model.specs.Pair.{pairSvd, isometrySite, vtSite, leftSite, rightSite}
 use Rattle.model.specs.Moves.{qAt, pairStored, rightMatrix, leftMatrix, absorbedRight, absorbedLeft, rightFrom, leftFrom, stepRight, stepLeft, walkRight, walkLeft, moved, established, Prepared}
-use Rattle.model.specs.Cut.{Tried, tried, weightSite, cutStored, concluded, cutWith, attempt, ran, adjacent, keepsCentre, preparedFor}
+use Rattle.model.specs.Cut.{Tried, tried, weightSite, cutRecorded, cutStored, concluded, cutWith, attempt, ran, adjacent, keepsCentre, preparedFor}
 use Rattle.model.specs.Born.{weight, total, drawn, projectedSite, resetSite, weightAt, totalAt, drawnAt, unlessClamped, projectedAt, resetAt, readied}
 use Rattle.model.specs.Calls.{projectAnswer}
 use Rattle.model.specs.Phases.{Phase, _⊗_, one}
@@ -347,16 +347,16 @@ module _ (S : Setup) (D : Fit S) (A B : List ℕ) where
       abbrev Stored : Tried → Type 0
       Stored a = (t : State) × (a ≡ tried 0 false t) × Tracked S A B t movedBits movedPhases
 
-      -- the state that a cut leaves, by its two sites and the discarded weight
-      abbrev cutWritten : Bool → WeightSide → State → List Float → List Float → ℕ → Float → State
-      cutWritten maintained side s l r high discarded =
+      -- the state that a cut leaves, by its two sites and its shares of the discarded weight
+      abbrev cutWritten : Bool → WeightSide → State → List Float → List Float → List Float → State
+      cutWritten maintained side s l r shares =
           let t = pairStored k l 1 r s in
-          held (withCenter (withTruncation (t .chain) high discarded) (cond maintained (At (weightSite side k)) (s .chain .center))) (t .store)
+          held (withCenter (cutRecorded k 1 shares (t .chain)) (cond maintained (At (weightSite side k)) (s .chain .center))) (t .store)
 
-      written-tracked : (maintained : Bool) (side : WeightSide) (s : State) (l r : List Float) (high : ℕ) (discarded : Float) → Tracked S A B s b p → length l ≡ 4
-          → Holds l (G .first (b k) (b (k + 1))) (G .by (b k) (b (k + 1)) ⊗ (p k ⊗ p (k + 1))) → length r ≡ 4 → Holds r (G .second (b k) (b (k + 1))) one → high ≡ 1 → discarded ≡ zeroF
-          → Tracked S A B (cutWritten maintained side s l r high discarded) movedBits movedPhases
-      written-tracked maintained side s l r high discarded t sl hl sr hr e f =
+      written-tracked : (maintained : Bool) (side : WeightSide) (s : State) (l r shares : List Float) → Tracked S A B s b p → length l ≡ 4
+          → Holds l (G .first (b k) (b (k + 1))) (G .by (b k) (b (k + 1)) ⊗ (p k ⊗ p (k + 1))) → length r ≡ 4 → Holds r (G .second (b k) (b (k + 1))) one → recorded (s .chain .«truncation_discarded») shares ≡ zeroF
+          → Tracked S A B (cutWritten maintained side s l r shares) movedBits movedPhases
+      written-tracked maintained side s l r shares t sl hl sr hr e =
           let u = pair-tracked s b p k (G .first (b k) (b (k + 1))) (G .second (b k) (b (k + 1))) (G .by (b k) (b (k + 1)) ⊗ (p k ⊗ p (k + 1))) one l r K t sl hl sr hr in
           record {
             same = u .same;
@@ -364,8 +364,8 @@ module _ (S : Setup) (D : Fit S) (A B : List ℕ) where
             rights-one = u .rights-one;
             holds = u .holds;
             centre = stored-centre (S .qubits) k K maintained side (s .chain .center) (t .centre);
-            high-one = e;
-            none = f;
+            high-one = λ i. max (t .high-one i) 1;
+            none = e;
             sites-are = u .sites-are;
             qubits-are = u .qubits-are;
           }
@@ -384,19 +384,17 @@ module _ (S : Setup) (D : Fit S) (A B : List ℕ) where
           let x =
           cut-exact gate G (siteAt s k) (siteAt s (k + 1)) (b k) (b (k + 1)) (p k) (p (k + 1)) (t .holds k K') (t .holds (k + 1) K)
           (s .chain .«svd_epsilon») (s .chain .«norm_clamp_min») (s .chain .«max_bond_dim») (P .side) (F .epsilon) (F .clamp) (F .some) in
-          let high = max (s .chain .«bond_high_water») 1 in
-          let discarded = recorded (s .chain .«truncation_discarded») (share (values d) 1) in
-          let out = cutWritten maintained (P .side) s (leftSite (P .side) 1 1 d) (rightSite (P .side) 1 1 d) high discarded in (
+          let out = cutWritten maintained (P .side) s (leftSite (P .side) 1 1 d) (rightSite (P .side) 1 1 d) (share (values d) 1) in (
             out,
             (λ i. concluded k maintained (P .side) s
                 (pairSvd (s .chain .«norm_clamp_min») (t .lefts-one k K' i) (t .rights-one k K' i) (t .rights-one (k + 1) K i) gate (siteAt s k) (siteAt s (k + 1))))
                 ∙ (λ i. cond (x .ordered i) (tried 7 false s) (cond (not maintained && x .resolved i) (tried 0 true s) (tried 0 false (cutStored k maintained (P .side) s d (x .bond i)))))
                 ∙ calm maintained (tried 0 true s) (tried 0 false (cutStored k maintained (P .side) s d 1))
-                ∙ (λ i. tried 0 false (cutWritten maintained (P .side) s (leftSite (P .side) (t .lefts-one k K' i) 1 d) (rightSite (P .side) 1 (t .rights-one (k + 1) K i) d) high discarded)),
-            written-tracked maintained (P .side) s (leftSite (P .side) 1 1 d) (rightSite (P .side) 1 1 d) high discarded t (length-left (P .side) d)
+                ∙ (λ i. tried 0 false (cutWritten maintained (P .side) s (leftSite (P .side) (t .lefts-one k K' i) 1 d) (rightSite (P .side) 1 (t .rights-one (k + 1) K i) d) (share (values d) 1))),
+            written-tracked maintained (P .side) s (leftSite (P .side) 1 1 d) (rightSite (P .side) 1 1 d) (share (values d) 1) t (length-left (P .side) d)
                 (subst (λ (c : ℕ). Holds (leftSite (P .side) 1 c d) (G .first (b k) (b (k + 1))) (G .by (b k) (b (k + 1)) ⊗ (p k ⊗ p (k + 1)))) (x .bond) (x .left))
                 (length-right (P .side) d) (subst (λ (c : ℕ). Holds (rightSite (P .side) c 1 d) (G .second (b k) (b (k + 1))) one) (x .bond) (x .right))
-                (λ i. max (t .high-one i) 1) (ap (λ (z : Float). recorded z (share (values d) 1)) (t .none) ∙ ap (λ (c : ℕ). recorded zeroF (share (values d) c)) (sym (x .bond)) ∙ x .discarded),
+                (ap (λ (z : Float). recorded z (share (values d) 1)) (t .none) ∙ ap (λ (c : ℕ). recorded zeroF (share (values d) c)) (sym (x .bond)) ∙ x .discarded),
           )
 
       -- a cut of bonds 1, 1, 1 works in 22 numbers

@@ -14,7 +14,7 @@ use Rattle.gates.specs.Named.{matrixOf}
 use Rattle.gates.specs.declared.NamedGate.{NamedGate}
 use Rattle.model.specs.declared.Applied.{Applied}
 use Rattle.model.specs.declared.Applied.the-variants as applied
-use Rattle.model.specs.Chain.{Labels, labelsOf}
+use Rattle.model.specs.Chain.{Labels, labelsOf, bondDiscarded}
 use Rattle.model.specs.Slots.{State}
 use Rattle.model.specs.Svd.{Svd, values}
 use Rattle.model.specs.Truncation.{share}
@@ -36,16 +36,24 @@ cutSvd g k s = pairOf g k (lastIn g k s)
 abbrev pub cutShare : List (List Complex) → ℕ → State → List Float
 cutShare g k s = let d = cutSvd g k s in share (values d) (rankOf s d)
 
+-- a share with the bond at which it was dropped, that between the sites `bond` and `bond` + 1
+pub record Dropped : Type 0 where
+  pub bond : ℕ
+  pub share : Float
+
+abbrev pub droppedAt : ℕ → Float → Dropped
+droppedAt k x = record { bond = k; share = x }
+
 -- of a run, in order: a step that is refused stores no cut and ends the run
-unfoldable pub sharesOf : List Step → State → List Float
+unfoldable pub sharesOf : List Step → State → List Dropped
 sharesOf [] s = []
-sharesOf (x ∷ xs) s = cond (eqb (stepped x s .refused) 0) (cutShare (x .gate) (x .site) s ++ sharesOf xs (stepped x s .state)) []
+sharesOf (x ∷ xs) s = cond (eqb (stepped x s .refused) 0) (map (droppedAt (x .site)) (cutShare (x .gate) (x .site) s) ++ sharesOf xs (stepped x s .state)) []
 
 -- of a call, by the number that it answers: a gate that is refused by 1 to 5 makes no cut
-abbrev pub unlessEarly : ℕ → List Float → List Float
+abbrev pub unlessEarly : ℕ → List Dropped → List Dropped
 unlessEarly number shares = cond (leb 1 number && leb number 5) [] shares
 
-unfoldable pub callShares : Call → State → List Float
+unfoldable pub callShares : Call → State → List Dropped
 callShares (gate q0 q1 g work) s = unlessEarly (viewApplied (gateCall s work q0 q1 g .answer) .number) (sharesOf (gateSteps s q0 q1 g) s)
 callShares (named q0 q1 name work) s = unlessEarly (viewApplied (namedGateCall s work q0 q1 name .answer) .number) (sharesOf (gateSteps s q0 q1 (matrixOf name)) s)
 callShares (project q o work) s = []
@@ -53,21 +61,33 @@ callShares (measure q flag draw work) s = []
 callShares (reset q draw work) s = []
 
 -- of a list of calls
-abbrev pub listShares : List Call → State → List Float
+abbrev pub listShares : List Call → State → List Dropped
 listShares [] s = []
 listShares (c ∷ cs) s = callShares c s ++ listShares cs (stateOf c s)
 
+-- the shares by themselves: of every bond, and of the bond between sites k and k + 1
+abbrev pub ofChain : List Dropped → List Float
+ofChain = map (λ (x : Dropped). x .share)
+
+abbrev pub ofBond : ℕ → List Dropped → List Float
+ofBond k [] = []
+ofBond k (x ∷ xs) = cond (eqb (x .bond) k) (x .share ∷ ofBond k xs) (ofBond k xs)
+
+-- the weight that the chain has discarded, and that the bond between sites k and k + 1 has
 abbrev pub discarded : State → Float
 discarded s = s .chain .«truncation_discarded»
+
+abbrev pub discardedAt : ℕ → State → Float
+discardedAt k s = bondDiscarded (s .chain) k
 
 -- ---- (e) The discarded weight after a call, refused or not, is the weight before with the shares of the call's stored cuts added in their order, the swaps' cuts
 -- included. A call that is no gate, or that 3, 2, 4 or 5 refuse, has no shares; a gate that 6 or 7 refuse has those of the cuts before.
 
 unfoldable pub WeightOfCall : Type 0
-WeightOfCall = (c : Call) (s : State) → discarded (stateOf c s) ≡ foldl (add binary64) (discarded s) (callShares c s)
+WeightOfCall = (c : Call) (s : State) → discarded (stateOf c s) ≡ foldl (add binary64) (discarded s) (ofChain (callShares c s))
 
 unfoldable pub WeightOfList : Type 0
-WeightOfList = (cs : List Call) (s : State) → discarded (finalState cs s) ≡ foldl (add binary64) (discarded s) (listShares cs s)
+WeightOfList = (cs : List Call) (s : State) → discarded (finalState cs s) ≡ foldl (add binary64) (discarded s) (ofChain (listShares cs s))
 
 -- ---- labels
 
@@ -124,7 +144,8 @@ pub record StopsAt (steps : List Step) (s : State) (a : After Applied) : Type 0 
   pub done : runSteps before s .refused ≡ 0
   pub stands : (let t = runSteps before s .state in StandsBySix a cut t ⊎ StandsBySeven a cut t)
   -- the refused cut adds no weight, and a refused swap exchanges no labels
-  pub weight : discarded (left a) ≡ foldl (add binary64) (discarded s) (sharesOf before s)
+  pub weight : discarded (left a) ≡ foldl (add binary64) (discarded s) (ofChain (sharesOf before s))
+  pub bond-weight : (k : ℕ) → discardedAt k (left a) ≡ foldl (add binary64) (discardedAt k s) (ofBond k (sharesOf before s))
   pub labels : labelsOf (a .chain) ≡ exchangedAll (swapsOf before) (labelsOf (s .chain))
 
 -- a gate on q0 and q1: done, with the labels of the closed form, or stopped

@@ -1,4 +1,4 @@
--- The marked examples of document 01, and those of the reasons of ranks (document 02, W3): one list, and one statement that covers it. A row has what the definitions compute, and what it has to be.
+-- The marked examples of document 01, and those of the reasons of ranks and of the bonds' discarded weights (document 02, W3 and W6): one list, and one statement that covers it. A row has what the definitions compute, and what it has to be.
 use Prim.Native.Nat.{ℕ, _/_, _%_, _^_}
 use mathlib.Core.Path.{_≡_, refl}
 use mathlib.Core.Bool.{Bool, true, false, _&&_, _||_, cond}
@@ -18,6 +18,7 @@ use Rattle.gates.specs.declared.NamedGate.the-variants.{Cx}
 use Rattle.root.specs.Root.{rootOf}
 use Rattle.model.specs.declared.Reason.{Reason}
 use Rattle.model.specs.declared.Reason.the-variants.{Floor, Cap, Tolerance, Full}
+use Rattle.model.specs.Chain.{bondDiscarded}
 use Rattle.model.specs.Slots.{State, held, workRoom, filled}
 use Rattle.model.specs.Columns.{l2Norm, scaledTo, zeroed}
 use Rattle.model.specs.Qr.{Kept, passOf, passesOf, keptOf, columnOf, raised, qr}
@@ -29,7 +30,7 @@ use Rattle.model.specs.Pair.{pairSvd, isometrySite, scaledSite, vtSite, 
 use Rattle.model.specs.Moves.{qAt, rAt, absorbedRight, stepRight, absorbedLeft, stepLeft, walkRight, walkLeft, moved, established}
 use Rattle.model.specs.Cut.{cutWith, attempt, adjacent, adjacentReason}
 use Rattle.model.specs.Routing.{stepped, runSteps, gateRun, gateReason}
-use Rattle.model.specs.Sound.{settingsFit, bondsFit, undoes, sized, sound}
+use Rattle.model.specs.Sound.{settingsFit, bondsFit, undoes, discardedFits, sized, sound}
 use Rattle.model.specs.Start.{freshChain, freshStore}
 use Rattle.model.specs.Answers.{toldApplied}
 use Rattle.model.specs.Calls.{gateCall, namedGateCall}
@@ -109,6 +110,10 @@ onesFirst = gateOf (λ r c. cond (eqb c 0 && (eqb r 0 || eqb r 3)) (real oneF) z
 abbrev pub told : ℕ → ℕ → ℕ → ℕ → List ℕ
 told n d q0 q1 = let a = toldApplied (gateCall (fresh n d) (work d) q0 q1 onesFirst .answer) in a .number ∷ map place (a .reason)
 
+-- what it leaves discarded under the cap 1: by the chain, and at the first m bonds
+abbrev pub dropped : ℕ → ℕ → ℕ → ℕ → List Float
+dropped n q0 q1 m = let c = gateCall (fresh n 1) (work 1) q0 q1 onesFirst .chain in c .«truncation_discarded» ∷ tabulate m (bondDiscarded c)
+
 -- ---- the list
 
 unfoldable pub table : List Row
@@ -150,8 +155,11 @@ table =
     ∷ wholes (told 2 2 0 1) (0 ∷ place Full ∷ [])
     -- (W3) E on (0,2) of a fresh n 3, D 2: the gate's own, Full, and not the swap's, Tolerance
     ∷ wholes (told 3 2 0 2) (0 ∷ place Full ∷ [])
+    -- (W6) E on a fresh n 2, D 1: the chain's figure and bond 0's have the bits 3FE0000000000000; on (1,2) of a fresh n 3, the chain's and bond 1's, and bond 0's is +0
+    ∷ wholes (map (toBits binary64) (dropped 2 0 1 1)) (0x3FE0_0000_0000_0000 ∷ 0x3FE0_0000_0000_0000 ∷ [])
+    ∷ wholes (map (toBits binary64) (dropped 3 1 2 2)) (0x3FE0_0000_0000_0000 ∷ 0 ∷ 0x3FE0_0000_0000_0000 ∷ [])
     ∷ []
 
 pub marked : allHold table ≡ true
-unfolding table sub mul div le isNan ofBits toBits addC conjC mulC normSqr scaleC each between tabulate every at store numbers rows finiteC allFinite gateOf swapGateQubits namedEntry matrixOf rootOf filled l2Norm scaledTo zeroed passOf passesOf keptOf columnOf raised qr skipped pairStep rowOfPairs sweep sweeps identityAt normalised factored earlier later orderOf anyNan values svd rank rankReason resolvable share pair.matrixOf pairSvd isometrySite scaledSite vtSite scaledVtSite absorbedRight stepRight absorbedLeft stepLeft walkRight walkLeft moved established cutWith attempt adjacent adjacentReason stepped runSteps gateRun gateReason settingsFit bondsFit undoes sized sound freshChain freshStore gateCall namedGateCall
+unfolding table sub mul div le isNan ofBits toBits addC conjC mulC normSqr scaleC each between tabulate every at store numbers rows finiteC allFinite gateOf swapGateQubits namedEntry matrixOf rootOf filled l2Norm scaledTo zeroed passOf passesOf keptOf columnOf raised qr skipped pairStep rowOfPairs sweep sweeps identityAt normalised factored earlier later orderOf anyNan values svd rank rankReason resolvable share pair.matrixOf pairSvd isometrySite scaledSite vtSite scaledVtSite absorbedRight stepRight absorbedLeft stepLeft walkRight walkLeft moved established cutWith attempt adjacent adjacentReason stepped runSteps gateRun gateReason settingsFit bondsFit undoes discardedFits sized sound freshChain freshStore gateCall namedGateCall
 marked = refl

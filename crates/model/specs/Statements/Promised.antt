@@ -18,6 +18,7 @@ use Rattle.model.specs.Lists.{Call, stateOf}
 use Rattle.model.specs.Statements.Demand1.{Numbered, Remains, Clamped}
 use Rattle.model.specs.Statements.Demand1Sound.{Orderly}
 use Rattle.model.specs.Statements.Demand1Cuts.{WeightOfCall, WeightOfList, Stops}
+use Rattle.model.specs.Statements.BondWeights.{BondWeights}
 use Rattle.model.specs.Statements.Pinned.{Pinned}
 use Rattle.model.specs.Statements.Factorings.{RotationLaw, PairLaw, SweepLaw, QuietLaw, OrderLaw, ValueLaw, SvdLaw, TransposeLaw, GramSchmidtLaw, PassLaw, QrLaw}
 use Rattle.model.specs.Statements.CutsAndMoves.{ElementLaw, FillLaw, BondLaw, MoveLaw, EstablishLaw}
@@ -78,5 +79,7 @@ pub record Promised : Type 0 where
   pub rank-reasons : RankReasons
   pub rank-by-reason : RankByReason
   pub gate-reasons : GateReasons
+  -- W6: the discarded weight of each bond
+  pub bond-weights : BondWeights
   -- the marked examples of documents 01 and 02
   pub marked : allHold table ≡ true

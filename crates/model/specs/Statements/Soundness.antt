@@ -4,10 +4,11 @@ use mathlib.Core.Path.{_≡_}
 use mathlib.Core.List.{List}
 use lib.Dec.{T}
 use lib.ListN.{length, getD}
-use lib.Ieee.{Float, le, lt}
+use lib.Ieee.{Float, binary64, le, lt, toBits}
 use Rattle.complex.specs.Complex.{zeroF, oneF}
 use Rattle.model.specs.declared.Center.the-variants.{At}
 use Rattle.model.specs.declared.Chain.{Chain}
+use Rattle.model.specs.Chain.{bondDiscarded}
 
 -- the settings are in range
 pub record Settings (n d : ℕ) (epsilon clamp : Float) (exponent : ℕ) : Type 0 where
@@ -34,13 +35,14 @@ pub record Undone (n : ℕ) (there back : List ℕ) : Type 0 where
   pub undone : (i : ℕ) → i < n → getD back (getD there i 0) 0 ≡ i
   pub past : (i : ℕ) → n ≤ i → getD there i 0 ≡ 0
 
--- the arrays have 64 entries
+-- the arrays have 64 entries, and that of the bonds between neighbours 63
 pub record Sized (c : Chain) : Type 0 where
   pub lefts : length (c .«bond_left») ≡ 64
   pub rights : length (c .«bond_right») ≡ 64
   pub sites : length (c .«logical_to_site») ≡ 64
   pub qubits : length (c .«site_to_logical») ≡ 64
   pub bits : length (c .«classical_bits») ≡ 64
+  pub by-bond : length (c .«bond_discarded») ≡ 63
 
 pub record Sound (c : Chain) : Type 0 where
   pub settings : Settings (c .«num_qubits») (c .«max_bond_dim») (c .«svd_epsilon») (c .«norm_clamp_min») (c .«workspace_exponent»)
@@ -49,4 +51,6 @@ pub record Sound (c : Chain) : Type 0 where
   pub sites : Undone (c .«num_qubits») (c .«logical_to_site») (c .«site_to_logical»)
   pub qubits : Undone (c .«num_qubits») (c .«site_to_logical») (c .«logical_to_site»)
   pub centre : (k : ℕ) → c .center ≡ At k → k < c .«num_qubits»
+  -- past the last bond, that between n - 2 and n - 1, the discarded weight is +0 by its bits; -0 has other bits, and so has a NaN (document 02, W6)
+  pub past-last-bond : (k : ℕ) → c .«num_qubits» ≤ k + 1 → k < 63 → toBits binary64 (bondDiscarded c k) ≡ 0
   pub sizes : Sized c

@@ -21,7 +21,7 @@ same-length-2 : tie.Need-same-length-2
 same-length-2 c = search needs
 
 returns : tie.Need-returns
-returns c = let a = c .before .before .before .before .before .before .before .before .before .before .before .before .before .before .before .before .before .before .before .before .before .args in moved-walks (held (a .chain) (a .store .now)) (held (c .before .before .before .before .before .before .before .before .before .before .before .before .before .before .before .before .walk-right .result) (c .before .before .before .before .before .before .before .before .before .before .before .before .before .before .before .before .walk-right .last .1 .0)) (held (c .before .before .before .before .before .before .before .before .before .walk-left .result) (c .before .before .before .before .before .before .before .before .before .walk-left .last .1 .0)) (a .from) (a .to) (c .before .before .before .before .before .before .before .before .before .before .before .before .before .before .before .before .walk-right .ensures) (c .before .before .before .before .before .before .before .before .before .walk-left .ensures)
+returns c = let a = c .before .before .before .before .before .before .before .before .before .before .before .before .before .before .before .before .before .before .before .before .before .before .args in moved-walks (held (a .chain) (a .store .now)) (held (c .before .before .before .before .before .before .before .before .before .before .before .before .before .before .before .before .before .walk-right .result) (c .before .before .before .before .before .before .before .before .before .before .before .before .before .before .before .before .before .walk-right .last .1 .0)) (held (c .before .before .before .before .before .before .before .before .before .before .walk-left .result) (c .before .before .before .before .before .before .before .before .before .before .walk-left .last .1 .0)) (a .from) (a .to) (c .before .before .before .before .before .before .before .before .before .before .before .before .before .before .before .before .before .walk-right .ensures) (c .before .before .before .before .before .before .before .before .before .before .walk-left .ensures)
 
 pub move-center-spec : {M : Type 1} → statement M
 move-center-spec =

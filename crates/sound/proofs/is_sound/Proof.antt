@@ -21,7 +21,8 @@ sized-true c =
     let s : length (x .«logical_to_site») ≡ 64 = search needs in
     let q : length (x .«site_to_logical») ≡ 64 = search needs in
     let b : length (x .«classical_bits») ≡ 64 = search needs in
-    rw (l, r, s, q, b)
+    let d : length (x .«bond_discarded») ≡ 63 = search needs in
+    rw (l, r, s, q, b, d)
 
 -- what the tests before those of the parts say
 bounds : (n d : ℕ) (epsilon clamp : Float) (exponent high : ℕ) → (settingsFit n d epsilon clamp exponent && within 1 d high) ≡ true → (1 ≤ n) × (n ≤ 64) × (high ≤ 128)
@@ -59,11 +60,17 @@ is-undone-requires-2 c κs = passed (c .before .before .before .before .before .
 center-fits-requires : tie.Need-center-fits-requires
 center-fits-requires c κs = search needs
 
+discarded-fits-requires : tie.Need-discarded-fits-requires
+discarded-fits-requires c κs =
+    let h = passed (c .before .before .before .before .before .before .before .before .before .before .before .before .before .before .before) in
+    (h .0, h .1)
+
 returns : tie.Need-returns
 unfolding sound bondsFit
 returns c =
-    let p = c .before .before .before .before .before .before .before .before .before .before .before .before .before in
-    rw (c .center-fits .ensures, c .before .is-undone2 .ensures, c .before .before .before .before .before .is-undone .ensures, c .before .before .before .before .before .before .before .before .before .bonds-fit .ensures)
+    let d = c .before .before .before in
+    let p = d .before .before .before .before .before .before .before .before .before .before .before .before .before in
+    rw (c .discarded-fits .ensures, d .center-fits .ensures, d .before .is-undone2 .ensures, d .before .before .before .before .before .is-undone .ensures, d .before .before .before .before .before .before .before .before .before .bonds-fit .ensures)
     (rw (← p .before .before .settings-fit .ensures, ← p .before .is-within .ensures, p .if1 .taken, sized-true (p .before .before .before), and-true))
 
 returns-2 : tie.Need-returns-2
@@ -81,5 +88,6 @@ is-sound-spec =
     is-undone-requires
     is-undone-requires-2
     center-fits-requires
+    discarded-fits-requires
     returns
     returns-2)
