@@ -43,7 +43,7 @@ pub record SlotsOf (d k : ℕ) (r : Slots) : Type 0 where
   pub right : r .right ≡ (k + 1) * slotRoom d
   pub right-end : r .«right_end» ≡ (k + 1) * slotRoom d + slotRoom d
 
--- the bond, the widest bond so far, the weight discarded so far, with a cut's shares added, and the centre
+-- the bond, the widest bond so far, the weights discarded so far, the chain's and the bond's, with a cut's shares added, and the centre
 abbrev pub recordedCut : Chain → ℕ → ℕ → List Float → Center → Chain
 recordedCut c k chi shares at = withCenter (cutRecorded k chi shares (withBond c k chi)) at
 

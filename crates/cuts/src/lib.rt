@@ -17,7 +17,7 @@ use moves::prepare_center;
 use pair::Bonds;
 use truncation::Share;
 ghost use mathlib.Core.Path.{_≡_};
-ghost use mathlib.Core.Bool.{true, false, _&&_, _||_, cond};
+ghost use mathlib.Core.Bool.{true, _||_, cond};
 ghost use Prim.Native.Nat.{_+_, _^_, _<_, _≤_};
 ghost use lib.Dec.{ltb};
 ghost use Rattle.model.specs.Slots.{held, slotOf, withSite};
@@ -164,7 +164,7 @@ fn store_pair(
     store_right(&mut store[s..t], work, &f.order, shape, side, bonds);
 }
 
-// The weight discarded so far, with a cut's share added.
+// A weight discarded so far, with a cut's share added.
 fn add_share(discarded: f64, share: Share) -> f64
     ensures { λ r. ⌜ r ≡ recorded discarded (sharesOf share) ⌝ }
 {
@@ -204,7 +204,7 @@ fn center_after(center: Center, k: usize, weight: Weight) -> Center
     }
 }
 
-// The record after a cut that kept chi values: bond, widest bond, discarded weight, centre.
+// The record after a cut that kept chi values: bond, widest bond, discarded weight of the chain and of the bond, centre.
 fn record_cut(chain: Chain, k: usize, chi: usize, share: Share, weight: Weight) -> Chain
     requires { ⌜ (k < 63) × (chi ≤ 128) ⌝ }
     ensures { λ r. ⌜ r ≡ recordedCut chain k chi (sharesOf share) (cond (weight .maintained) (At (weightSite (weight .side) k)) (chain .center)) ⌝ }
@@ -243,7 +243,7 @@ fn cut_pair(
     weight: Weight,
 ) -> Cut
     requires { ⌜ (1 ≤ d) × Pair d k (bonds .left) (bonds .mid) (bonds .right) (now store) (now work) ⌝ }
-    ensures { λ r. ⌜ (r .chi ≤ d) × (r .again && r .stored ≡ false) ⌝ }
+    ensures { λ r. ⌜ r .chi ≤ d ⌝ }
     ensures { λ r. ⌜ ((c : Chain) → GoesBy d epsilon clamp k bonds c → Leaves (r .answer) (r .again) (held (recordedBy c k weight r) (now (store .exit))) (reasonIn gate k (held c (now (store .entry)))) (cutWith gate k (weight .maintained) (prepared (weight .side) (held c (now (store .entry)))))) ⌝ }
 {
     let f = decompose_pair(store, work, gate, d, k, bonds, clamp);
