@@ -1,6 +1,6 @@
 -- An attempt and a cut by their branches, and that each leaves the chain ready for the next.
 use Prim.Native.Nat.{ℕ, _+_, _^_, _<_}
-use mathlib.Core.Path.{_≡_, refl, sym, ap, ap₂, _∙_, subst}
+use mathlib.Core.Path.{_≡_, refl, sym, ap, _∙_, subst}
 use mathlib.Core.Bool.{Bool, true, false, not, _&&_, _||_, cond, true≢false}
 use mathlib.Core.List.{List}
 use native.Mathlib.Omega.{arith}
@@ -23,7 +23,7 @@ use Rattle.model.specs.Moves.{Prepared, prepared, preparedOn, established}
 use Rattle.model.specs.Cut.{known, canLose, keepsCentre, preparedFor, pairOf, rankOf, reasonIn, Tried, tried, weightSite, cutStored, cutWith, attempt, adjacent, attemptReason, adjacentReason}
 use Rattle.model.specs.Statements.Soundness.{Sound}
 use Rattle.model.specs.Laws.MoveLaws.{established-narrowed, established-centre}
-use Rattle.model.specs.Laws.SoundKept.{Keeps, keeps-none, narrowed-keeps, prepared-narrowed, adjacent-keeps}
+use Rattle.model.specs.Laws.SoundKept.{Keeps, narrowed-keeps, prepared-narrowed, adjacent-keeps}
 use Rattle.model.specs.Laws.CutEnds.{established-prepared, second-not-6}
 use Rattle.model.specs.Laws.Tests.{either-way}
 use Rattle.truncation.specs.Shares.{sharesOf}

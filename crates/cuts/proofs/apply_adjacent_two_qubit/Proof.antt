@@ -5,7 +5,6 @@ use Rattle.model.specs.Slots.{held}
 use Rattle.model.specs.Laws.SoundKept.{keeps-none}
 use Rattle.cuts.specs.Pair.{pair-of}
 use Rattle.cuts.specs.Attempts.{ready-keeps, established-keeps, keeps-centre, adjacent-above, centered-once, bare-once, twice}
-use borrow.Author.Needs.{needs}
 use Rattle.cuts.proofs.apply_adjacent_two_qubit.Statement.{statement}
 use Rattle.cuts.proofs.apply_adjacent_two_qubit.Tie as tie
 

@@ -1,7 +1,6 @@
 use mathlib.Core.Path.{refl}
 use native.Mathlib.Omega.{arith}
 use Rattle.cuts.specs.Pair.{pair-of}
-use borrow.Author.Needs.{needs}
 use Rattle.cuts.proofs.cut_prepared.Statement.{statement}
 use Rattle.cuts.proofs.cut_prepared.Tie as tie
 
