@@ -10,11 +10,8 @@ use Rattle.model.specs.Statements.Soundness.{Sound}
 use Rattle.model.specs.Laws.SoundFacts.{facts_sound}
 use Rattle.model.specs.Laws.AfterStates.{not_short}
 use Rattle.model.specs.Laws.Refusals.{first_of_none, passes_sound, not_outside}
-use Rattle.model.specs.Laws.LayerRuns.{AcceptedLayer}
 use Rattle.model.specs.Laws.Tests.{neither}
 use Rattle.moves.specs.Ready.{Ready}
-use Rattle.layers.specs.Room.{gates_room}
-use Rattle.layer_run.specs.Runs.{Layer}
 use Rattle.environments.specs.Walk.{Walkable}
 
 -- ---- where the number is 0
@@ -24,10 +21,6 @@ pub flag_below : (s : State) (work : List Float) (q flag : ℕ) (draw : Float) �
 flag_below s work q flag draw e =
     let p = first_of_none (not (sound s.chain)) (short s.chain s.store work) (outside s.chain q || leb 64 flag) (not (share01 draw)) (eq-eqb _ 0 e) in
     leb-false 64 flag (neither (outside s.chain q) (leb 64 flag) p.four).1
-
--- of a layer: its pairs fit, and there is a gate for each
-pub accepted_pairs : {s : State} {work : List Float} {pairs : List ℕ} {gates : List Float} → AcceptedLayer s work pairs gates → Layer s.chain.num_qubits pairs gates
-accepted_pairs {pairs = pairs} {gates = gates} a = record { fit = a.fit; room = gates_room (length pairs) (length gates) a.agree }
 
 -- of a walk: the result slice is long enough, and its ends are in the chain
 pub record AcceptedWalk (s : State) (work out : List Float) (end site : ℕ) : Type 0 where

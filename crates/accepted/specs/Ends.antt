@@ -6,35 +6,28 @@ use Rattle.complex.specs.declared.Complex.{Complex}
 use Rattle.model.specs.declared.Answer.{Answer}
 use Rattle.model.specs.declared.Answer.TheVariants as answer
 use Rattle.model.specs.declared.Applied.{Applied}
-use Rattle.model.specs.declared.Layered.{Layered}
 use Rattle.model.specs.declared.Projected.{Projected}
 use Rattle.model.specs.declared.Measured.{Measured}
 use Rattle.model.specs.declared.Measured.TheVariants as measured
 use Rattle.model.specs.declared.Contracted.TheVariants as contracted
 use Rattle.model.specs.Chain.{site_of}
 use Rattle.model.specs.Slots.{State}
-use Rattle.model.specs.Layers.{layer_of}
-use Rattle.model.specs.Routing.{gate_run, gate_reason, layer_ran, layer_run}
+use Rattle.model.specs.Routing.{gate_run, gate_reason}
 use Rattle.model.specs.Born.{drawn_at, projected_at, reset_at, readied}
 use Rattle.model.specs.Environment.{Env}
-use Rattle.model.specs.Calls.{after, cleared, gate_refusal, gate_call, layer_refusal, layer_call, project_refusal, project_answer, project_call, measure_refusal, flagged, measure_call, reset_refusal, reset_call, walked, env_refusal, env_after}
+use Rattle.model.specs.Calls.{after, cleared, gate_refusal, gate_call, project_refusal, project_answer, project_call, measure_refusal, flagged, measure_call, reset_refusal, reset_call, walked, env_refusal, env_after}
 use Rattle.cuts.specs.Answered.{answered, answered_by}
 
 -- the test of the number
 ended : {A : Type 0} {number : ℕ} (x y z : A) → number ≡ 0 → z ≡ x → z ≡ cond (eqb number 0) x y
 ended x y z none h = h ∙ ap (λ (n : ℕ). cond (eqb n 0) x y) (sym none)
 
--- ---- a gate, and a layer of them
+-- ---- a gate
 
 pub gate_ends : (s : State) (work : List Float) (q0 q1 : ℕ) (gate : List (List Complex)) (a : Applied) (t : State) (left : List Float)
     → gate_refusal s work q0 q1 gate ≡ 0 → answered a t ≡ answered_by (gate_reason gate q0 q1 s) (gate_run gate q0 q1 s) → left ≡ cleared s.chain work → after a t left ≡ gate_call s work q0 q1 gate
 unfolding gate_call
 gate_ends s work q0 q1 gate a t left none er el = ended _ _ _ none (λ i. after (er i).answer (er i).state (el i))
-
-pub layer_ends : (s : State) (work : List Float) (pairs : List ℕ) (gates : List Float) (a : Layered) (t : State) (left : List Float)
-    → layer_refusal s work pairs gates ≡ 0 → layer_ran a t ≡ layer_run 0 (layer_of pairs gates) s → left ≡ cleared s.chain work → after a t left ≡ layer_call s work pairs gates
-unfolding layer_call
-layer_ends s work pairs gates a t left none er el = ended _ _ _ none (λ i. after (er i).answer (er i).state (el i))
 
 -- ---- a projection, a measurement, a reset; the site is the qubit's
 

@@ -2,13 +2,12 @@
 // `chain` alone.
 ghost use Rattle.std.specs.Prelude.{◌≡◌};
 ghost use Rattle.model.specs.Slots.{held};
-ghost use Rattle.model.specs.Calls.{after, walked, gate_refusal, gate_call, layer_refusal, layer_call, project_refusal, project_call, measure_refusal, measure_call, reset_refusal, reset_call, env_refusal, left_environment_call, right_environment_call};
+ghost use Rattle.model.specs.Calls.{after, walked, gate_refusal, gate_call, project_refusal, project_call, measure_refusal, measure_call, reset_refusal, reset_call, env_refusal, left_environment_call, right_environment_call};
 
 use columns::{fill_zero, wide};
 use complex::Complex;
 use environments::{compute_left_env, compute_right_env, write_environment};
-use layer_run::apply_pairs;
-use model::{Chain, Contracted, Gated, LayerRun, Measurement, Projection, Reset};
+use model::{Chain, Contracted, Gated, Measurement, Projection, Reset};
 use outcomes::{apply_measure, apply_reset, project_z_outcome};
 use refusals::work_room;
 use routing::apply_two_qubit_gate;
@@ -29,23 +28,6 @@ pub fn run_gate(
 {
     let room = work_room(chain.max_bond_dim);
     let out = apply_two_qubit_gate(chain, store, &mut work[..room], gate, q0, q1);
-    fill_zero(&mut work[..room]);
-    out
-}
-
-// The gates of a layer in turn.
-pub fn run_layer(
-    chain: Chain,
-    store: &mut [f64],
-    work: &mut [f64],
-    pairs: &[u8],
-    gates: &[f64],
-) -> LayerRun
-    requires { layer_refusal (held chain store.old) work.old pairs.now gates.now ≡ 0 }
-    ensures { after result.answer (held result.chain store.new) work.new ≡ layer_call (held chain store.old) work.old pairs.now gates.now }
-{
-    let room = work_room(chain.max_bond_dim);
-    let out = apply_pairs(chain, store, &mut work[..room], pairs, gates);
     fill_zero(&mut work[..room]);
     out
 }

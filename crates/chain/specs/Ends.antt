@@ -11,7 +11,6 @@ use Rattle.model.specs.declared.Chain.{Chain}
 use Rattle.model.specs.declared.Answer.TheVariants as answer
 use Rattle.model.specs.declared.Applied.{Applied}
 use Rattle.model.specs.declared.Applied.TheVariants as applied
-use Rattle.model.specs.declared.Layered.TheVariants as layered
 use Rattle.model.specs.declared.Projected.TheVariants as projected
 use Rattle.model.specs.declared.Measured.TheVariants as measured
 use Rattle.model.specs.declared.Contracted.TheVariants as contracted
@@ -19,7 +18,7 @@ use Rattle.model.specs.Slots.{State, store_room}
 use Rattle.model.specs.Environment.{Env}
 use Rattle.model.specs.Sound.{settings_fit}
 use Rattle.model.specs.Start.{fresh_chain, fresh_store, zero_chain}
-use Rattle.model.specs.Calls.{After, after, Started, started, start_call, gate_refusal, gate_call, named_gate_call, layer_refusal, layer_call, project_refusal, project_call, measure_refusal, measure_call, reset_refusal, reset_call, walked, env_refusal, env_after}
+use Rattle.model.specs.Calls.{After, after, Started, started, start_call, gate_refusal, gate_call, named_gate_call, project_refusal, project_call, measure_refusal, measure_call, reset_refusal, reset_call, walked, env_refusal, env_after}
 use Rattle.model.specs.Laws.SoundFacts.{settings_facts}
 
 -- ---- a refused call
@@ -35,10 +34,6 @@ module _ (s : State) (work : List Float) where
   pub gate_refused : (q0 q1 : ℕ) (gate : List (List Complex)) (k : ℕ) → k ≡ gate_refusal s work q0 q1 gate → (k ≡ 0 → ⊥) → after (applied.Refused k) s work ≡ gate_call s work q0 q1 gate
   unfolding gate_call
   gate_refused q0 q1 gate k = turned (λ (n : ℕ). after (applied.Refused n) s work) _
-
-  pub layer_refused : (pairs : List ℕ) (gates : List Float) (k : ℕ) → k ≡ layer_refusal s work pairs gates → (k ≡ 0 → ⊥) → after (layered.Refused k) s work ≡ layer_call s work pairs gates
-  unfolding layer_call
-  layer_refused pairs gates k = turned (λ (n : ℕ). after (layered.Refused n) s work) _
 
   pub project_refused : (q : ℕ) (o : Bool) (k : ℕ) → k ≡ project_refusal s work q → (k ≡ 0 → ⊥) → after (projected.Refused k) s work ≡ project_call s work q o
   unfolding project_call

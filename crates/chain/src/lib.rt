@@ -3,20 +3,19 @@
 // refused, under which number, and what is left, stands in `model`, specs/Calls.antt.
 ghost use Rattle.std.specs.Prelude.{◌≡◌};
 ghost use Rattle.model.specs.Slots.{held};
-ghost use Rattle.model.specs.Calls.{after, started, walked, start_call, gate_call, named_gate_call, layer_call, project_call, measure_call, reset_call, left_environment_call, right_environment_call};
+ghost use Rattle.model.specs.Calls.{after, started, walked, start_call, gate_call, named_gate_call, project_call, measure_call, reset_call, left_environment_call, right_environment_call};
 
 use accepted::{
-    run_gate, run_layer, run_left_environment, run_measure, run_project, run_reset,
-    run_right_environment,
+    run_gate, run_left_environment, run_measure, run_project, run_reset, run_right_environment,
 };
 use complex::Complex;
 use fresh::{fresh_chain, fresh_store, zero_chain};
 use gates::{NamedGate, is_finite, matrix_4x4};
 use model::{
-    Answer, Applied, Chain, Contracted, Gated, LayerRun, Layered, Measured, Measurement, Projected,
-    Projection, Reset, Start,
+    Answer, Applied, Chain, Contracted, Gated, Measured, Measurement, Projected, Projection, Reset,
+    Start,
 };
-use refusals::{call_refusal, layer_refusal, start_refusal, walk_refusal};
+use refusals::{call_refusal, start_refusal, walk_refusal};
 use sound::is_share;
 
 // A fresh chain of n qubits under the cap d.
@@ -77,27 +76,6 @@ pub fn apply_named_gate(
 {
     let gate = matrix_4x4(name);
     apply_gate(chain, store, work, q0, q1, gate)
-}
-
-// A layer of gates on pairs of qubits, two bytes a pair, and 32 numbers a pair for its gate, rows in order. The pairs
-// run in the order given, once the whole layer has passed its tests.
-pub fn apply_layer(
-    chain: Chain,
-    store: &mut [f64],
-    work: &mut [f64],
-    pairs: &[u8],
-    gates: &[f64],
-) -> LayerRun
-    ensures { after result.answer (held result.chain store.new) work.new ≡ layer_call (held chain store.old) work.old pairs.now gates.now }
-{
-    let k = layer_refusal(chain, store.len(), work.len(), pairs, gates);
-    if k != 0 {
-        return LayerRun {
-            answer: Layered::Refused(k),
-            chain: chain,
-        };
-    }
-    run_layer(chain, store, work, pairs, gates)
 }
 
 // ---- outcomes

@@ -2,7 +2,6 @@
 pub mod AfterStates
 pub mod AsAt63
 pub mod BondShares
-pub mod CallLabels
 pub mod ColumnLaws
 pub mod CutEnds
 pub mod CutLaws
@@ -19,9 +18,6 @@ pub mod GateProducts
 pub mod Gates
 pub mod JacobiLaws
 pub mod Labels
-pub mod LayerCalls
-pub mod LayerMachine
-pub mod LayerRuns
 pub mod MoveLaws
 pub mod NeverSix
 pub mod OrderLaws

@@ -60,15 +60,6 @@ pub enum Applied {
     Refused(u8),
 }
 
-// What a layer of pairs answers: all done; refused before anything is written; or stopped by a number at a pair, counted
-// from 0.
-#[derive(Drop)]
-pub enum Layered {
-    Done,
-    Refused(u8),
-    Stopped(u8, usize),
-}
-
 // What a projection answers: the weight of the kept branch, or nothing where the branch has none.
 #[derive(Drop)]
 pub enum Projected {
@@ -101,12 +92,6 @@ pub struct Start {
 #[derive(Drop)]
 pub struct Gated {
     pub answer: Applied,
-    pub chain: Chain,
-}
-
-#[derive(Drop)]
-pub struct LayerRun {
-    pub answer: Layered,
     pub chain: Chain,
 }
 

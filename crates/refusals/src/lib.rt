@@ -2,9 +2,8 @@
 ghost use Rattle.std.specs.Prelude.{◌≡◌, ◌||◌, not, cond, false, ◌≤◌, ltb};
 ghost use Rattle.model.specs.Slots.{store_room, work_room};
 ghost use Rattle.model.specs.Sound.{settings_fit, sound};
-ghost use Rattle.model.specs.Calls.{first_of, env_room, layer_number};
+ghost use Rattle.model.specs.Calls.{first_of, env_room};
 
-use layers::{gates_finite, lengths_agree, pairs_apart, pairs_fit};
 use model::Chain;
 use sound::{is_sound, settings_fit};
 
@@ -70,30 +69,6 @@ pub fn call_refusal(chain: Chain, store: usize, work: usize, outside: bool, impr
     }
     let short = is_short(chain.num_qubits, chain.max_bond_dim, store, work);
     first_of(short, outside, improper)
-}
-
-// Of a layer of pairs, with a store and a work slice of these lengths.
-pub fn layer_refusal(chain: Chain, store: usize, work: usize, pairs: &[u8], gates: &[f64]) -> u8
-    ensures { result ≡ layer_number chain (ltb store (store_room chain.num_qubits chain.max_bond_dim) || ltb work (work_room chain.max_bond_dim)) pairs.now gates.now }
-{
-    if !is_sound(chain) {
-        return 3;
-    }
-    let short = is_short(chain.num_qubits, chain.max_bond_dim, store, work);
-    if short | !lengths_agree(pairs.len(), gates.len()) {
-        return 2;
-    }
-    if !pairs_fit(pairs, chain.num_qubits) {
-        return 4;
-    }
-    if !pairs_apart(pairs, chain.num_qubits) {
-        return 9;
-    }
-    if gates_finite(gates, pairs.len() / 2) {
-        0
-    } else {
-        5
-    }
 }
 
 // Of an environment walk, with a result slice of length `out` too.

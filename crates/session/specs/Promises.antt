@@ -5,7 +5,7 @@ use Rattle.std.proofs.Common.{sym, subst, ◌∙◌, arith}
 use Rattle.std.proofs.Math.Bool.{true, false, cond}
 use Rattle.std.proofs.Math.Dec.{T}
 use Rattle.model.specs.declared.Answer.TheVariants as answer
-use Rattle.model.specs.Answers.{Value, none, weight, nothing, bit, dimension, pair, View, bits_of}
+use Rattle.model.specs.Answers.{Value, none, weight, nothing, bit, dimension, View, bits_of}
 use Rattle.model.specs.Slots.{store_room}
 use Rattle.model.specs.Sound.{settings_fit}
 use Rattle.model.specs.Start.{zero_chain, fresh_chain, fresh_store}
@@ -16,14 +16,13 @@ use Rattle.lines.specs.Text.{digit, decimal, hex_text, bit_digit, detail_text, l
 use Rattle.session.specs.declared.Session.{Session}
 use Rattle.session.specs.Session.{new_session, detail_of, line_of, turned_away, after_start, start_step, gate_step, named_gate_step, projection_step, measure_step, reset_step, kind_step, obeys, step_of}
 
--- the text of an accepted answer's value: a space and its bits, 16 hex digits of a weight or of Nothing, one digit of a measured bit. No record asks for a dimension or for a layer
+-- the text of an accepted answer's value: a space and its bits, 16 hex digits of a weight or of Nothing, one digit of a measured bit. No record asks for a dimension
 abbrev pub value_text : Value → List ℕ
 value_text none = []
 value_text (weight w) = 32 ∷ hex_text (bits_of (weight w))
 value_text nothing = 32 ∷ hex_text (bits_of nothing)
 value_text (bit b) = 32 ∷ digit (bits_of (bit b)) ∷ []
 value_text (dimension n) = []
-value_text (pair p) = []
 
 -- the line of an answer: the kind, the refusal number or 0, and the value
 abbrev pub answer_text : ℕ → View → List ℕ
@@ -51,7 +50,6 @@ value_text_lem nothing = refl
 value_text_lem (bit true) = refl
 value_text_lem (bit false) = refl
 value_text_lem (dimension n) = refl
-value_text_lem (pair p) = refl
 
 line_text_lem : (kind : ℕ) (v : View) → line_text (line_of kind v) ≡ answer_text kind v
 unfolding line_text

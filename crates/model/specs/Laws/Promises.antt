@@ -20,8 +20,6 @@ use Rattle.model.specs.Laws.ZeroSigns as signs
 use Rattle.model.specs.Laws.NeverSix as uncapped
 use Rattle.model.specs.Laws.AsAt63 as exponents
 use Rattle.model.specs.Laws.Reasons as reasons
-use Rattle.model.specs.Laws.LayerCalls as layers
-use Rattle.model.specs.Laws.LayerMachine as pairs
 
 pub promised : Promised
 promised = record {
@@ -64,7 +62,5 @@ promised = record {
   rank_by_reason = reasons.rank_by_reason;
   gate_reasons = reasons.gate_reasons;
   bond_weights = bonds.bond_weights;
-  layer_as_gates = layers.layer_as_gates;
-  at_most_32 = pairs.at_most_32;
   marked = examples.marked;
 }

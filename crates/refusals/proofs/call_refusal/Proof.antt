@@ -16,7 +16,7 @@ first-of-requires : tie.Need-first-of-requires
 first-of-requires c κs = search rules
 
 returns-2 : tie.Need-returns-2
-returns-2 c = rw (c.first_of.ensures, c.before.is-short.ensures, ← c.before.before.before.is-sound.ensures, c.before.before.if1.false)
+returns-2 c = rw (c.first-of.ensures, c.before.is-short.ensures, ← c.before.before.before.is-sound.ensures, c.before.before.if1.false)
 
 pub call-refusal-spec : {M : Type 1} → statement M
 call-refusal-spec =

@@ -1,3 +1,0 @@
--- What the proofs of a layer's tests use, and those of its run.
-pub mod Room
-pub mod Named
