@@ -1,5 +1,7 @@
 // What a call does that is not refused: its run at the front of the work slice, which is +0 afterwards. Reached through
 // `chain` alone.
+#![tactic(auto)]
+
 ghost use Rattle.std.specs.Prelude.{◌≡◌};
 ghost use Rattle.model.specs.Slots.{held};
 ghost use Rattle.model.specs.Calls.{after, walked, gate_refusal, gate_call, project_refusal, project_call, measure_refusal, measure_call, reset_refusal, reset_call, env_refusal, left_environment_call, right_environment_call};

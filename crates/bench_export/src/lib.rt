@@ -1,4 +1,6 @@
 // A fresh chain and a list of gate records run on it in one call, for a benchmark to link beside the Rust.
+#![tactic(auto)]
+
 ghost use Rattle.std.specs.Prelude.{◌≡◌, ◌/◌, ◌<◌, length};
 ghost use Rattle.complex.specs.Loops.{each};
 ghost use Rattle.record.specs.GateBytes.{gate_read};

@@ -1,6 +1,8 @@
 // The Born weights of a site, the outcome that a draw picks, and the site projected on an outcome or
 // reset from it. A site's amplitudes stand at the front of its slot, by left index, bit and right
 // index; the rest of a rewritten slot is +0.
+#![tactic(auto)]
+
 ghost use Rattle.std.specs.Prelude.{◌≡◌, ◌++◌, ◌+◌, ◌*◌, ◌≤◌, ◌<◌, length, drop};
 ghost use Rattle.std.specs.Float.Ieee as ieee;
 ghost use Rattle.std.specs.Float.{binary64};

@@ -1,4 +1,6 @@
 // Little-endian numbers in slices of bytes, and an f64 by its bits. All NaN patterns are the one NaN.
+#![tactic(auto)]
+
 ghost use Rattle.std.specs.Prelude.{◌≡◌, ◌+◌, ◌≤◌, length};
 ghost use Rattle.std.specs.Float.{binary64};
 ghost use Rattle.std.specs.Float.Ieee.{of_bits, to_bits};

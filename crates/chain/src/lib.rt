@@ -1,6 +1,8 @@
 // The public calls on a chain of qubits. Each takes the chain record by value and hands it back beside its answer; the
 // amplitudes lie in a lent store, and a lent work slice is used meanwhile. Every call is defined on all inputs: what is
 // refused, under which number, and what is left, stands in `model`, specs/Calls.antt.
+#![tactic(auto)]
+
 ghost use Rattle.std.specs.Prelude.{◌≡◌};
 ghost use Rattle.model.specs.Slots.{held};
 ghost use Rattle.model.specs.Calls.{after, started, walked, start_call, gate_call, named_gate_call, project_call, measure_call, reset_call, left_environment_call, right_environment_call};

@@ -1,5 +1,7 @@
 // Reads run records from standard input and prints a line for each. What is printed for an input is `stream`'s; here are
 // the reads and writes. It stops at the input's end, after the line `0 8`, and where a line cannot be written.
+#![tactic(auto)]
+
 ghost use Rattle.std.specs.Prelude.{◌≤◌, ◌≡◌, length};
 ghost use Rattle.stream.specs.Output.{new_store, new_work};
 
@@ -7,7 +9,7 @@ use libc::{STDIN_FILENO, STDOUT_FILENO};
 use stream::{Run, end, feed, new_run};
 
 // The run after a piece of the input, and whether another is to be read.
-#[derive(Drop)]
+#[derive(Clone, Copy)]
 struct Turned {
     run: Run,
     goes_on: bool,

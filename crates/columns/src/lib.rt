@@ -1,5 +1,7 @@
 // What the kernels share. Runs of complex numbers in a slice of f64: a run's norm, runs that are scaled or made zero in
 // place, rows read out of a matrix, and the rest of a slot cleared. The smaller and the larger of two numbers.
+#![tactic(auto)]
+
 ghost use Rattle.std.specs.Prelude.{◌≡◌, ◌++◌, ◌+◌, ◌-◌, ◌*◌, ◌<◌, ◌≤◌, min, max, length, replicate, take};
 ghost use Rattle.complex.specs.Complex.{conj_c, zero_f};
 ghost use Rattle.complex.specs.Numbers.{count, at, numbers};

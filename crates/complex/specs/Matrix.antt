@@ -1,5 +1,5 @@
 -- Matrices in a list of floats. A column-major matrix of `high` rows has its element (r, c) at number c * high + r.
-use Rattle.std.specs.Prelude.{◌≡◌, refl, length, take, Float}
+use Rattle.std.specs.Prelude.{◌≡◌, refl, length, Float}
 use Rattle.std.proofs.Math.Path.{sym, ap, ap₂}
 use Rattle.std.proofs.Common.{◌∙◌, le_refl, add-zero, add-suc, zero-mul, mod-lt, mod-eq_of_lt, div-add-mod', div-lt_iff_lt-mul, eq-or-lt_of_le, le_of_suc-le-suc, not-suc-le-zero, add-one, take_at, drop_at}
 use Rattle.std.proofs.Math.Logic.{⊎_elim}

@@ -1,6 +1,6 @@
 -- A part of a list, and a list with a part replaced: what lending a part of a slice computes to.
 use Rattle.std.specs.Prelude.{◌≡◌, refl, List, [], ◌∷◌, ◌++◌, ℕ, suc, ◌+◌, ◌-◌, ◌≤◌, ◌<◌, length, get_or, set, take, drop, replicate}
-use Rattle.std.proofs.Common.{sym, ap, ◌∙◌, append_assoc, append-nil, le_of_suc-le-suc, not-suc-le-zero, add-one, arith, length-append, length-take, length-drop, take-append-drop, length-take-le, take_at, take-suc, drop_at, drop-drop}
+use Rattle.std.proofs.Common.{sym, ap, ◌∙◌, append_assoc, append-nil, le_of_suc-le-suc, not-suc-le-zero, add-one, arith, length-append, length-drop, take-append-drop, length-take-le, take_at, take-suc, drop_at, drop-drop}
 use Rattle.std.proofs.lemmas.List.{length-replicate, replicate-append-replicate, take-append-le, drop-append-le}
 use Rattle.std.proofs.Math.Seq.{drop-length, drop-append-add, append_snoc}
 

@@ -1,15 +1,18 @@
 // A complex number is a pair of f64, real part first, by value; each operation rounds once.
 // Its operations, and complex number k of a slice of f64.
+#![tactic(auto)]
+
 ghost use Rattle.std.specs.Prelude.{◌≡◌, ◌<◌};
 ghost use Rattle.complex.specs.Complex.{add_c, sub_c, neg_c, conj_c, mul_c, norm_sqr, scale_c, unscale_c, is_zero};
 ghost use Rattle.complex.specs.Numbers.{count, at, store};
 
-#[derive(Drop)]
+#[derive(Clone, Copy)]
 pub struct Complex {
     pub re: f64,
     pub im: f64,
 }
 
+#[tactic(auto, unfolding(crate::specs::Complex::add_c))]
 pub fn add(a: Complex, b: Complex) -> Complex
     ensures { result ≡ add_c a b }
 {
@@ -19,6 +22,7 @@ pub fn add(a: Complex, b: Complex) -> Complex
     }
 }
 
+#[tactic(auto, unfolding(crate::specs::Complex::sub_c))]
 pub fn sub(a: Complex, b: Complex) -> Complex
     ensures { result ≡ sub_c a b }
 {
@@ -28,6 +32,7 @@ pub fn sub(a: Complex, b: Complex) -> Complex
     }
 }
 
+#[tactic(auto, unfolding(crate::specs::Complex::neg_c))]
 pub fn neg(a: Complex) -> Complex
     ensures { result ≡ neg_c a }
 {
@@ -37,6 +42,7 @@ pub fn neg(a: Complex) -> Complex
     }
 }
 
+#[tactic(auto, unfolding(crate::specs::Complex::conj_c))]
 pub fn conj(z: Complex) -> Complex
     ensures { result ≡ conj_c z }
 {
@@ -46,6 +52,7 @@ pub fn conj(z: Complex) -> Complex
     }
 }
 
+#[tactic(auto, unfolding(crate::specs::Complex::mul_c))]
 pub fn mul(a: Complex, b: Complex) -> Complex
     ensures { result ≡ mul_c a b }
 {
@@ -55,6 +62,7 @@ pub fn mul(a: Complex, b: Complex) -> Complex
     }
 }
 
+#[tactic(auto, unfolding(crate::specs::Complex::norm_sqr))]
 pub fn norm_sqr(a: Complex) -> f64
     ensures { result ≡ norm_sqr a }
 {
@@ -62,6 +70,7 @@ pub fn norm_sqr(a: Complex) -> f64
 }
 
 // a times the real number t.
+#[tactic(auto, unfolding(crate::specs::Complex::scale_c))]
 pub fn scale(a: Complex, t: f64) -> Complex
     ensures { result ≡ scale_c a t }
 {
@@ -72,6 +81,7 @@ pub fn scale(a: Complex, t: f64) -> Complex
 }
 
 // a divided by the real number t.
+#[tactic(auto, unfolding(crate::specs::Complex::unscale_c))]
 pub fn unscale(a: Complex, t: f64) -> Complex
     ensures { result ≡ unscale_c a t }
 {
@@ -82,6 +92,7 @@ pub fn unscale(a: Complex, t: f64) -> Complex
 }
 
 // Whether both parts are zeros, of either sign.
+#[tactic(auto, unfolding(crate::specs::Complex::is_zero))]
 pub fn is_zero(a: Complex) -> bool
     ensures { result ≡ is_zero a }
 {
@@ -89,6 +100,7 @@ pub fn is_zero(a: Complex) -> bool
 }
 
 // Complex number k of a slice.
+#[tactic(auto, unfolding(crate::specs::Numbers::at))]
 pub fn complex_at(s: &[f64], k: usize) -> Complex
     requires { k < count s.now }
     ensures { result ≡ at s.now k }
@@ -100,6 +112,7 @@ pub fn complex_at(s: &[f64], k: usize) -> Complex
 }
 
 // z in the place of complex number k of a slice.
+#[tactic(auto, unfolding(crate::specs::Numbers::store))]
 pub fn set_complex(s: &mut [f64], k: usize, z: Complex)
     requires { k < count s.old }
     ensures { s.new ≡ store s.old k z }

@@ -1,4 +1,6 @@
 // Cuts of neighbouring sites with the chain record: one attempt, and a second with a centre where weight would be lost.
+#![tactic(auto)]
+
 ghost use Rattle.std.specs.Prelude.{◌≡◌, true, ◌||◌, cond, ◌+◌, ◌^◌, ◌<◌, ◌≤◌, ltb};
 ghost use Rattle.model.specs.Slots.{held, slot_of, with_site};
 ghost use Rattle.model.specs.Truncation.{recorded, cut_rank, workspace};
@@ -85,7 +87,7 @@ fn keeps_center(chain: Chain, bonds: Bonds) -> bool
 // ---- one cut
 
 // Where the slots of the sites k and k + 1 begin and end in the store.
-#[derive(Drop)]
+#[derive(Clone, Copy)]
 struct Slots {
     left: usize,
     left_end: usize,
@@ -175,7 +177,7 @@ fn weight_site(side: WeightSide, k: usize) -> usize
 }
 
 // How a cut leaves the pair: the side that carries the weight, and whether the centre is recorded there.
-#[derive(Drop)]
+#[derive(Clone, Copy)]
 struct Weight {
     side: WeightSide,
     maintained: bool,
@@ -212,7 +214,7 @@ fn record_cut(chain: Chain, k: usize, chi: usize, share: Share, weight: Weight) 
 
 // What a cut of two sites leaves beside them: its answer; whether it is to be made again with a centre, and whether it is
 // stored; and what it kept.
-#[derive(Drop)]
+#[derive(Clone, Copy)]
 struct Cut {
     answer: Applied,
     again: bool,

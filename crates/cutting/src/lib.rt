@@ -1,4 +1,6 @@
 // What one cut does below the chain record, on slices and numbers: the pair's decomposition at the front of the work slice, what is kept of its values, and the two sites made of its factors.
+#![tactic(auto)]
+
 ghost use Rattle.std.specs.Prelude.{◌≡◌, ◌*◌, ◌≤◌, length};
 ghost use Rattle.complex.specs.Numbers.{count};
 ghost use Rattle.model.specs.Slots.{filled};
@@ -20,7 +22,7 @@ use truncation::{Share, discarded_share, discards_resolvable_weight, truncated_s
 // ---- the decomposition
 
 // Whether the conjugate transpose is decomposed, the rows and columns of what is, and the place of the first value, behind the matrix and the rotations.
-#[derive(Drop)]
+#[derive(Clone, Copy)]
 pub struct Shape {
     pub adjoint: bool,
     pub high: usize,
@@ -74,7 +76,7 @@ fn contract_pair(
 }
 
 // A decomposition at the front of the work slice: its shape, the order of its values, and whether one of them is a NaN.
-#[derive(Drop)]
+#[derive(Clone, Copy)]
 pub struct Decomposed {
     pub shape: Shape,
     pub order: [u8; 256],
@@ -110,7 +112,7 @@ pub fn decompose(
 // ---- what is kept
 
 // How many values, why so many, whether one above the resolution is dropped, and the share of the weight that is.
-#[derive(Drop)]
+#[derive(Clone, Copy)]
 pub struct Kept {
     pub chi: usize,
     pub reason: Reason,

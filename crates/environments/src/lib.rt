@@ -1,5 +1,7 @@
 // The environments of a site, by a walk over the chain's sites from one end. The environment stands at
 // the front of the work slice, as many complex numbers as its dimension squared.
+#![tactic(auto)]
+
 ghost use Rattle.std.specs.Prelude.{◌≡◌, ◌++◌, ◌-◌, ◌*◌, ◌<◌, ◌≤◌, length, take, drop};
 ghost use Rattle.model.specs.Slots.{held, slot_of};
 ghost use Rattle.model.specs.Environment.{left_across, right_across, left_env, right_env};

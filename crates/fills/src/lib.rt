@@ -1,5 +1,7 @@
 // The ways to write a site's slot: from the factors of a cut, and from those of a QR step. What is left of the slot becomes +0.
 // Column g of a factor f stands in w from number f.base + order[g] * f.stride on, and its value is number vals + order[g].
+#![tactic(auto)]
+
 ghost use Rattle.std.specs.Prelude.{◌≡◌, ◌+◌, ◌*◌, ◌<◌, ◌≤◌, length};
 ghost use Rattle.complex.specs.Complex.{scale_c, mul_c, conj_c, real};
 ghost use Rattle.complex.specs.Numbers.{count, at, numbers};
@@ -11,7 +13,7 @@ use columns::{clear_from, conj_row, gather, wide};
 use complex::{Complex, complex_at, conj, mul, scale, set_complex};
 
 // Where a factor of a decomposition stands among its numbers: its first number, and how many a column has.
-#[derive(Drop)]
+#[derive(Clone, Copy)]
 pub struct Factor {
     pub base: usize,
     pub stride: usize,

@@ -1,4 +1,6 @@
 // A fresh chain: its record and its store, every qubit 0, every bond 1, no centre; and the all-zero record of a refused start.
+#![tactic(auto)]
+
 ghost use Rattle.std.specs.Prelude.{◌≡◌, [], ◌∷◌, ◌≤◌, length};
 ghost use Rattle.complex.specs.Complex.{zero_f, one_f};
 ghost use Rattle.model.specs.Slots.{store_room, filled};

@@ -1,5 +1,7 @@
 // Gates on two qubits: four rows of four complex numbers, by value. Rows are outputs.
 // A row's or a column's index is 2 * first bit + second bit.
+#![tactic(auto)]
+
 ghost use Rattle.std.specs.Prelude.{◌≡◌};
 ghost use Rattle.std.specs.Float.Ieee.Scale.{finite};
 ghost use Rattle.gates.specs.Gate.{number, four, swap_bits, swap_gate_qubits};
@@ -10,7 +12,7 @@ ghost use Rattle.gates.specs.Named.{matrix_of};
 use complex::Complex;
 
 // The gates that have names. The first qubit of Cx controls.
-#[derive(Drop)]
+#[derive(Clone, Copy)]
 pub enum NamedGate {
     Swap,
     Cx,

@@ -1,5 +1,7 @@
 // One step of the centre beside the factoring: a site as the matrix that is factored, and r multiplied into the neighbour.
 // The factored list w holds q by columns and, from number bond * (2 * bl) on (2 * br to the left), r by rows of `bond` numbers.
+#![tactic(auto)]
+
 ghost use Rattle.std.specs.Prelude.{◌≡◌, ◌+◌, ◌*◌, ◌<◌, ◌≤◌, length, take};
 ghost use Rattle.complex.specs.Complex.{mul_c, conj_c, zero_c};
 ghost use Rattle.complex.specs.Loops.{sum_c};

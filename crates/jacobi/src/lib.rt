@@ -1,5 +1,7 @@
 // One-sided Jacobi rotations, in place. The slice holds, in numbers, a matrix of `high` rows and `wide` columns, by columns,
 // from 0 on, and the product of the rotations, `wide` by `wide`, by columns, from wide * high on.
+#![tactic(auto)]
+
 ghost use Rattle.std.specs.Prelude.{◌≡◌, ◌+◌, ◌*◌, ◌<◌, ◌≤◌};
 ghost use Rattle.complex.specs.Numbers.{count};
 ghost use Rattle.model.specs.Jacobi as jacobi;
@@ -65,7 +67,7 @@ fn rotation(g: Gram) -> Rotation
 }
 
 // A complex factor, with its negated imaginary part beside it, so that both parts of a product are sums.
-#[derive(Drop)]
+#[derive(Clone, Copy)]
 struct Factor {
     re: f64,
     im: f64,
@@ -101,7 +103,7 @@ fn times(a: Factor, z: Complex) -> Complex
 }
 
 // A rotation's factors: of x and of y in what x becomes, and in what y becomes.
-#[derive(Drop)]
+#[derive(Clone, Copy)]
 struct Turn {
     px: Factor,
     py: Factor,

@@ -1,4 +1,6 @@
 // The line that is printed for a run record: its kind, the refusal number or 0, and what an accepted call answered.
+#![tactic(auto)]
+
 ghost use Rattle.std.specs.Prelude.{◌≡◌, ◌+◌, ◌≤◌, ◌<◌, length};
 ghost use Rattle.std.proofs.lemmas.List.Edits.{sets};
 ghost use Rattle.lines.specs.Text.{decimal, bit_digit, hex_digit, hex_text, detail_text, written, written_length};
@@ -6,7 +8,7 @@ ghost use Rattle.lines.specs.Text.{decimal, bit_digit, hex_digit, hex_text, deta
 use bytes_le::to_bits;
 
 // What follows the two numbers. A projection's weight is printed by its bits, and that it found nothing as zeros.
-#[derive(Drop)]
+#[derive(Clone, Copy)]
 pub enum Detail {
     Empty,
     Kept(f64),
@@ -14,7 +16,7 @@ pub enum Detail {
     Bit(bool),
 }
 
-#[derive(Drop)]
+#[derive(Clone, Copy)]
 pub struct Line {
     pub kind: u8,
     pub number: u8,

@@ -1,8 +1,10 @@
 // The types of the chain record and of every answer. What the calls do to them is defined in specs/.
+#![tactic(auto)]
+
 use complex::Complex;
 
 // The site the chain is canonical about, if one is recorded.
-#[derive(Drop)]
+#[derive(Clone, Copy)]
 pub enum Center {
     Unknown,
     At(usize),
@@ -11,7 +13,7 @@ pub enum Center {
 // The chain record: settings, bonds of each site, label maps, classical flags, centre, and what the cuts left.
 // The fields are named as in the Rust, which has no bond_discarded. Bonds and labels are bytes: a bond is at most 128, a
 // label below 64. Entry k of bond_discarded is the weight that the cuts at the bond between sites k and k + 1 discarded.
-#[derive(Drop)]
+#[derive(Clone, Copy)]
 pub struct Chain {
     pub num_qubits: usize,
     pub max_bond_dim: usize,
@@ -30,14 +32,14 @@ pub struct Chain {
 }
 
 // Which site of a pair carries the singular values after a cut.
-#[derive(Drop)]
+#[derive(Clone, Copy)]
 pub enum WeightSide {
     Left,
     Right,
 }
 
 // What start and reset answer.
-#[derive(Drop)]
+#[derive(Clone, Copy)]
 pub enum Answer {
     Done,
     Refused(u8),
@@ -45,7 +47,7 @@ pub enum Answer {
 
 // Why a cut keeps as many singular values as it does: raised to 1; lowered to the cap; those above the tolerance, and
 // not all; all.
-#[derive(Drop)]
+#[derive(Clone, Copy)]
 pub enum Reason {
     Floor,
     Cap,
@@ -54,14 +56,14 @@ pub enum Reason {
 }
 
 // What a gate answers: the reason of its last cut.
-#[derive(Drop)]
+#[derive(Clone, Copy)]
 pub enum Applied {
     Done(Reason),
     Refused(u8),
 }
 
 // What a projection answers: the weight of the kept branch, or nothing where the branch has none.
-#[derive(Drop)]
+#[derive(Clone, Copy)]
 pub enum Projected {
     Kept(f64),
     Nothing,
@@ -69,52 +71,52 @@ pub enum Projected {
 }
 
 // What a measurement answers.
-#[derive(Drop)]
+#[derive(Clone, Copy)]
 pub enum Measured {
     Bit(bool),
     Refused(u8),
 }
 
 // What an environment walk answers: the dimension of the environment that it wrote.
-#[derive(Drop)]
+#[derive(Clone, Copy)]
 pub enum Contracted {
     Dim(usize),
     Refused(u8),
 }
 
 // Each call's answer, with the chain as the call leaves it.
-#[derive(Drop)]
+#[derive(Clone, Copy)]
 pub struct Start {
     pub answer: Answer,
     pub chain: Chain,
 }
 
-#[derive(Drop)]
+#[derive(Clone, Copy)]
 pub struct Gated {
     pub answer: Applied,
     pub chain: Chain,
 }
 
-#[derive(Drop)]
+#[derive(Clone, Copy)]
 pub struct Projection {
     pub answer: Projected,
     pub chain: Chain,
 }
 
-#[derive(Drop)]
+#[derive(Clone, Copy)]
 pub struct Measurement {
     pub answer: Measured,
     pub chain: Chain,
 }
 
-#[derive(Drop)]
+#[derive(Clone, Copy)]
 pub struct Reset {
     pub answer: Answer,
     pub chain: Chain,
 }
 
 // Two columns of a matrix: the sums of their squared moduli, and of conj(p) times q.
-#[derive(Drop)]
+#[derive(Clone, Copy)]
 pub struct Gram {
     pub pp: f64,
     pub qq: f64,
@@ -122,7 +124,7 @@ pub struct Gram {
 }
 
 // A Jacobi rotation: its cosine, its sine, and the conjugate of the phase of g_pq.
-#[derive(Drop)]
+#[derive(Clone, Copy)]
 pub struct Rotation {
     pub c: f64,
     pub s: f64,

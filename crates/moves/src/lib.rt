@@ -1,4 +1,6 @@
 // Moves of the orthogonality centre by QR steps.
+#![tactic(auto)]
+
 ghost use Rattle.std.specs.Prelude.{◌≡◌, ◌+◌, ◌-◌, ◌*◌, ◌<◌, ◌≤◌, min, length, take};
 ghost use Rattle.complex.specs.Numbers.{count};
 ghost use Rattle.complex.specs.Parts.{part};
@@ -289,7 +291,7 @@ pub fn center_on(chain: Chain, store: &mut [f64], work: &mut [f64], k: usize) ->
 }
 
 // Where the centre goes before a cut, and the side that the cut shall leave it on.
-#[derive(Drop)]
+#[derive(Clone, Copy)]
 struct Aim {
     side: WeightSide,
     site: usize,
@@ -320,7 +322,7 @@ fn aim_at(center: Center, k: usize) -> Aim
 }
 
 // What a cut starts from: the side that it shall leave the centre on, and the chain.
-#[derive(Drop)]
+#[derive(Clone, Copy)]
 pub struct Prepared {
     pub side: WeightSide,
     pub chain: Chain,

@@ -1,5 +1,7 @@
 // Projection, measurement and reset of the qubit at a site. The centre is brought to the site first, so
 // that the site's own amplitudes give the weights.
+#![tactic(auto)]
+
 ghost use Rattle.std.specs.Prelude.{◌≡◌, true, false, cond, ◌<◌, set};
 ghost use Rattle.std.specs.Float.Ieee as ieee;
 ghost use Rattle.std.specs.Float.{binary64};
@@ -20,7 +22,7 @@ use model::{Answer, Chain, Measured, Measurement, Projected, Projection, Reset};
 use moves::center_on;
 
 // The weights of both outcomes at a site, not divided by their total.
-#[derive(Drop)]
+#[derive(Clone, Copy)]
 struct Weights {
     zero: f64,
     one: f64,

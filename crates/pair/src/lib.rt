@@ -1,5 +1,7 @@
 // Two neighbouring sites as one matrix: their contraction with a gate on it, written by columns, straight or as the conjugate transpose.
 // The four elements of one left index a and one right index b meet in no other four of the result, so they are made and stored together.
+#![tactic(auto)]
+
 ghost use Rattle.std.specs.Prelude.{◌≡◌, ◌+◌, ◌*◌, ◌<◌, ◌≤◌, length};
 ghost use Rattle.complex.specs.Complex.{add_c, mul_c};
 ghost use Rattle.complex.specs.Numbers.{count};
@@ -9,7 +11,7 @@ ghost use Rattle.pair.specs.Blocks.{grown, dots_of, mix_of, mixed_of, conjugated
 use complex::{Complex, add, complex_at, conj, mul, set_complex};
 
 // The bonds of a pair of neighbours: left of it, between its sites, right of it.
-#[derive(Drop)]
+#[derive(Clone, Copy)]
 pub struct Bonds {
     pub left: usize,
     pub mid: usize,
@@ -17,7 +19,7 @@ pub struct Bonds {
 }
 
 // The elements (i, j) = (0, 0), (0, 1), (1, 0) and (1, 1) of one a and one b.
-#[derive(Drop)]
+#[derive(Clone, Copy)]
 pub struct Block {
     pub e00: Complex,
     pub e01: Complex,

@@ -1,6 +1,8 @@
 // The thin QR factoring of a gauge move, by modified Gram-Schmidt with reorthogonalisation, in place. The slice holds, in
 // numbers, a matrix of `high` rows and `wide` columns, by columns, from 0 on, whose first columns become q; and r, by rows,
 // from wide * high on.
+#![tactic(auto)]
+
 ghost use Rattle.std.specs.Prelude.{◌≡◌, ◌+◌, ◌*◌, ◌<◌, ◌≤◌, min, max, length, take};
 ghost use Rattle.complex.specs.Loops.{between};
 ghost use Rattle.complex.specs.Numbers.{count};
@@ -23,7 +25,7 @@ fn add_term(w: &[f64], a: usize, b: usize, acc: Complex) -> Complex
     add(acc, mul(conj(complex_at(w, a)), complex_at(w, b)))
 }
 
-#[derive(Drop)]
+#[derive(Clone, Copy)]
 struct FourSums {
     s0: Complex,
     s1: Complex,

@@ -1,5 +1,7 @@
 // Run records: bytes read as a record's fields, or turned away under 8. A record is its length, 2 bytes that count
 // kind and body, its kind, 2 bytes, and its body. Where each field stands is said in specs/Layout.antt.
+#![tactic(auto)]
+
 ghost use Rattle.std.specs.Prelude.{◌≡◌, ◌+◌, ◌*◌, ◌≤◌, [], ◌∷◌, length};
 ghost use Rattle.bytes_le.specs.Value.{value};
 ghost use Rattle.gates.specs.Gate.{four};
@@ -12,7 +14,7 @@ use bytes_le::{f64_at, u8_at, u16_at};
 use complex::Complex;
 
 // The fields of every kind of record, as they stand in it. Those that the kind does not have are 0.
-#[derive(Drop)]
+#[derive(Clone, Copy)]
 pub struct Fields {
     pub kind: u16,
     pub n: u8,
@@ -29,7 +31,7 @@ pub struct Fields {
 }
 
 // What reading finds: fields under 0, or 8 with fields that are all 0.
-#[derive(Drop)]
+#[derive(Clone, Copy)]
 pub struct Read {
     pub refused: u8,
     pub fields: Fields,

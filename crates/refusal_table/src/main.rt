@@ -1,5 +1,7 @@
 // One refused call for each row of the table in docs/REFUSALS.md, in its order, and the line that a run record of that
 // kind would print.
+#![tactic(auto)]
+
 use chain::{apply_named_gate, measure, start};
 use gates::NamedGate;
 use lines::{Detail, Line, write_line};

@@ -1,4 +1,6 @@
 // The number that a call is refused under before it runs, 0 where it is not, and the room that a chain needs.
+#![tactic(auto)]
+
 ghost use Rattle.std.specs.Prelude.{◌≡◌, ◌||◌, not, cond, false, ◌≤◌, ltb};
 ghost use Rattle.model.specs.Slots.{store_room, work_room};
 ghost use Rattle.model.specs.Sound.{settings_fit, sound};

@@ -1,6 +1,8 @@
 // Replays a list of streams of run records and writes, after each record's line, the whole state and the environments.
 // The list on standard input and the text that it must give were made with the Rust (tests/oracle/make_list.py).
 // A stream in the list is its length in bytes, 4 bytes least first, and its records.
+#![tactic(auto)]
+
 ghost use Rattle.std.specs.Prelude.{◌≡◌, ◌≤◌, ◌<◌, length};
 
 use bytes_le::u32_at;
@@ -44,7 +46,7 @@ fn next(bytes: &[u8], at: usize) -> usize
 }
 
 // One record: its line, then the state if there is a chain. A session after which reading goes on.
-#[derive(Drop)]
+#[derive(Clone, Copy)]
 struct Turn {
     session: Session,
     stops: bool,

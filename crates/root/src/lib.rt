@@ -1,6 +1,8 @@
 // The square root of an f64 and the size of a complex number, each correctly rounded.
 // Both are half of the root of a whole number. A guess at it is made in f64 arithmetic and tested in whole numbers; where the
 // test refuses, the root is found a binary digit at a time, highest first, in 64-bit words.
+#![tactic(auto)]
+
 ghost use Rattle.std.specs.Prelude.{◌≡◌, ◌+◌, ◌-◌, ◌*◌, ◌/◌, ◌%◌, ◌^◌, ◌<◌, ◌≤◌, false, ◌&&◌, ◌||◌, T, ltb, if◌then◌else◌, from_bits, nat_lt, to_bits};
 ghost use Rattle.std.specs.Float.{binary64};
 ghost use Rattle.std.specs.Float.Ieee.{fits, units};
@@ -20,7 +22,7 @@ use std::num::wrapping_sub_u64;
 // ---- numbers of two words
 
 // A whole number, hi * 2^54 + lo with lo below 2^54, and whether anything was cut off below it.
-#[derive(Drop)]
+#[derive(Clone, Copy)]
 struct Wide {
     hi: u64,
     lo: u64,
@@ -86,7 +88,7 @@ fn sum(m: Wide, n: Wide) -> Wide
 // ---- half of a root
 
 // The digits found of a root, and what the number's digits so far are above their square.
-#[derive(Drop)]
+#[derive(Clone, Copy)]
 struct Found {
     root: u64,
     rest: u64,
@@ -198,7 +200,7 @@ fn half_root(n: Wide, g: u64, guess: f64) -> f64
 // ---- bit patterns
 
 // A finite value, its sign aside: significand * 2^exponent units of 2^-1074.
-#[derive(Drop)]
+#[derive(Clone, Copy)]
 struct Decoded {
     significand: u64,
     exponent: u64,

@@ -1,4 +1,6 @@
 // The root and the size of a complex number, for C and Rust to link.
+#![tactic(auto)]
+
 ghost use Rattle.std.specs.Prelude.{◌≡◌};
 ghost use Rattle.root.specs.Root.{root_of};
 ghost use Rattle.root.specs.Norm.{norm_of};

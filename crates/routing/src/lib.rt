@@ -1,4 +1,6 @@
 // A gate routed to its two qubits: swaps of neighbouring sites with their labels, then the gate.
+#![tactic(auto)]
+
 ghost use Rattle.std.specs.Prelude.{◌≡◌, ◌≢◌, cond, ◌+◌, ◌-◌, ◌<◌, ltb};
 ghost use Rattle.gates.specs.Gate.{swap_gate_qubits};
 ghost use Rattle.model.specs.Chain.{site_of};
@@ -35,7 +37,7 @@ fn swap_layout_labels(chain: Chain, left_site: usize) -> Chain
 }
 
 // What swaps leave: the number that refused one, 0 for none, and the chain.
-#[derive(Drop)]
+#[derive(Clone, Copy)]
 struct Run {
     pub refused: u8,
     pub chain: Chain,

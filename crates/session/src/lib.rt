@@ -1,5 +1,7 @@
 // One run record against a session: the record's call, and the line to print for it. What is left of the session, the
 // store and the work slice, and which line is printed, is defined in specs/Session.antt.
+#![tactic(auto)]
+
 ghost use Rattle.std.specs.Prelude.{◌≡◌};
 ghost use Rattle.model.specs.Answers.{view_answer, view_applied, view_projected, view_measured};
 ghost use Rattle.session.specs.Session.{left, new_session, line_of, stop_line, is_done, name_of, in_turn, start_step, gate_step, named_gate_step, projection_step, measure_step, reset_step, kind_step, step_of};
@@ -11,14 +13,14 @@ use model::{Answer, Applied, Chain, Measured, Projected};
 use record::{Fields, read_gate, read_record};
 
 // A run so far: whether a start was accepted, and the chain. Its amplitudes lie in the store that is lent to each step.
-#[derive(Drop)]
+#[derive(Clone, Copy)]
 pub struct Session {
     pub started: bool,
     pub chain: Chain,
 }
 
 // The session after a record, and the record's line. The line `0 8` says that reading stops.
-#[derive(Drop)]
+#[derive(Clone, Copy)]
 pub struct Stepped {
     pub session: Session,
     pub line: Line,

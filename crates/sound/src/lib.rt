@@ -1,5 +1,7 @@
 // Whether a chain record is sound, and its parts that are asked by themselves: the settings that
 // start takes, and a share, as a draw is.
+#![tactic(auto)]
+
 ghost use Rattle.std.specs.Prelude.{◌≡◌, ◌&&◌, ◌||◌, ◌+◌, ◌-◌, ◌≤◌, leb, ltb, eqb, get_or};
 ghost use Rattle.complex.specs.Loops.{every};
 ghost use Rattle.model.specs.Sound.{within, share01, settings_fit, entry_fits, undoes, center_fits, discarded_fits, sound};

@@ -1,6 +1,8 @@
 // Writes a whole state to standard output, a line each: the record, the labels, the weights discarded by bond, the
 // sites, and the environments of every site from both ends. What is printed is held against the Rust by `replay`'s list,
 // and stated by no contract.
+#![tactic(auto)]
+
 ghost use Rattle.std.specs.Prelude.{◌≡◌, ◌≤◌, ◌<◌, length};
 
 use bytes_le::to_bits;

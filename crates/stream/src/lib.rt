@@ -1,5 +1,7 @@
 // The program's output: run records that come in pieces of any size, and the text of their lines. What is printed for a
 // whole input is defined in specs/Output.antt, what one piece does in specs/Feeding.antt.
+#![tactic(auto)]
+
 ghost use Rattle.std.specs.Prelude.{◌+◌, ◌≤◌, false, ◌≡◌, length};
 ghost use Rattle.record.specs.Frames.{whole};
 ghost use Rattle.stream.specs.Feeding.{progress, record_done, can_take, before, after, fed, new_run, ending, ended};
@@ -9,7 +11,7 @@ use record::more_bytes;
 use session::{Session, new_session, step};
 
 // A run between two pieces: the session, how many bytes of a record are there, and whether reading has stopped.
-#[derive(Drop)]
+#[derive(Clone, Copy)]
 pub struct Run {
     pub session: Session,
     pub pending: usize,
@@ -17,7 +19,7 @@ pub struct Run {
 }
 
 // What a piece did: the run after it, how many of its bytes were taken, and how many bytes of text were written.
-#[derive(Drop)]
+#[derive(Clone, Copy)]
 pub struct Fed {
     pub run: Run,
     pub used: usize,
@@ -25,7 +27,7 @@ pub struct Fed {
 }
 
 // The session after a record, whether reading stops, and where the text ends.
-#[derive(Drop)]
+#[derive(Clone, Copy)]
 struct Turned {
     session: Session,
     stops: bool,

@@ -1,5 +1,7 @@
 // The singular value decomposition of a matrix of `high` rows and `wide` columns, in place. The slice holds, in numbers,
 // the matrix and the rotations as in jacobi, and behind them the values, each with the imaginary part +0.
+#![tactic(auto)]
+
 ghost use Rattle.std.specs.Prelude.{◌≡◌, ◌+◌, ◌*◌, ◌<◌, ◌≤◌, length, get_or, take};
 ghost use Rattle.std.specs.Float.Ieee.{is_nan};
 ghost use Rattle.complex.specs.Loops.{each, tabulate};
@@ -129,7 +131,7 @@ fn sort_columns(w: &[f64], base: usize, n: usize) -> [u8; 256]
 }
 
 // The order of the values, and whether one of them is a NaN.
-#[derive(Drop)]
+#[derive(Clone, Copy)]
 pub struct Factored {
     pub nan: bool,
     pub order: [u8; 256],

@@ -1,4 +1,6 @@
 // What a cut keeps of its singular values, given in order, why so many, and the share of the weight that it drops.
+#![tactic(auto)]
+
 ghost use Rattle.std.specs.Prelude.{◌≡◌, ◌≤◌, length, get_or};
 ghost use Rattle.complex.specs.Complex.{zero_f};
 ghost use Rattle.model.specs.Truncation.{leading, rank, reason_by, rank_reason, resolvable, squares_from, share};
@@ -50,7 +52,7 @@ fn rank_reason(above: usize, max_bond_dim: usize, values: usize) -> Reason
 }
 
 // How many values are kept, and why so many.
-#[derive(Drop)]
+#[derive(Clone, Copy)]
 pub struct Ranked {
     pub chi: usize,
     pub reason: Reason,
@@ -93,7 +95,7 @@ fn sum_squares_from(s: &[f64], from: usize) -> f64
 }
 
 // The share of the weight that a cut drops, if there is one.
-#[derive(Drop)]
+#[derive(Clone, Copy)]
 pub enum Share {
     Nothing,
     Of(f64),

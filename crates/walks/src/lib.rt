@@ -1,5 +1,7 @@
 // One step of each environment walk. An environment of dimension d is d * d complex numbers by rows, at the front of the work slice.
 // A step writes the inner sums behind it, then the new environment behind these, and copies that to the front.
+#![tactic(auto)]
+
 ghost use Rattle.std.specs.Prelude.{◌≡◌, ◌+◌, ◌*◌, ◌/◌, ◌%◌, ◌<◌, ◌≤◌, cond, eqb, length, take};
 ghost use Rattle.complex.specs.Complex.{real, zero_c, one_f};
 ghost use Rattle.complex.specs.Numbers.{count, at, stores, numbers};

@@ -1,5 +1,7 @@
 // The worked call of docs/CALLS.md: two qubits made into a Bell pair, the reason of its bond, and the second of them
 // projected on 1.
+#![tactic(auto)]
+
 use chain::{apply_gate, apply_named_gate, project, start};
 use complex::Complex;
 use gates::NamedGate;
