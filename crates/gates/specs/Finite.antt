@@ -24,6 +24,8 @@ all_finite g = every 4 (λ r. every 4 (λ c. finite_c (entry g r c)))
 
 zero_value : (x : Float) (s : Bool) (c : ℕ) → 0 < c → HasValue x s 0 c → eq x zero_f ≡ true
 unfolding eq of_bits
+zero_value nan s c p h = elim h [ ]
+zero_value (inf _) s c p h = elim h [ ]
 zero_value (fin t m e) s c p h =
     let z : m * up e ≡ 0 = eq_of_mul-eq-mul_right c p (m * up e) 0 (h.1 ∙ zero-mul (down e) ∙ sym (zero-mul c)) in
     rw (z, zero-mul (down e)) (either t)

@@ -47,6 +47,8 @@ named_fit Cz = tt
 -- what equals a zero of either sign equals +0
 zero_either : (x : Float) (s : Bool) → T (eq x (zero_of s)) → T (eq x (zero_of false))
 unfolding eq
+zero_either lib.Ieee.nan s h = elim h [ ]
+zero_either (lib.Ieee.inf _) s h = elim h [ ]
 zero_either (fin r m e) s h =
     let a = m * up e * 1 in
     let l = and_l (eqb a (0 * down e)) (beq r s || eqb a 0) h in

@@ -34,6 +34,12 @@ add_rooted : (x y : Float) → Rooted x → Rooted y → Rooted (add binary64 x 
 unfolding add is_nan
 add_rooted nan y p q = tt
 add_rooted (inf false) nan p q = tt
+add_rooted (inf false) (inf true) p q = elim q [ ]
+add_rooted (inf false) (fin true n d) p q = elim q [ ]
+add_rooted (inf true) y p q = elim p [ ]
+add_rooted (fin false m e) (inf true) p q = elim q [ ]
+add_rooted (fin false m e) (fin true n d) p q = elim q [ ]
+add_rooted (fin true m e) y p q = elim p [ ]
 add_rooted (inf false) (inf false) p q = tt
 add_rooted (inf false) (fin false n d) p q = tt
 add_rooted (fin false m e) nan p q = tt

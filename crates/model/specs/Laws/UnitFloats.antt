@@ -82,6 +82,8 @@ exact s m (negsuc k) p =
 
 -- a number that fits, with the sign and the size of another that fits, is that number
 same : (y : Float) (s : Bool) (m : ℕ) (e : ℤ) → T (fits binary64 y) → Proper m e → HasValue y s (suc m * up e * 1) (down e * 1) → y ≡ fin s (suc m) e
+same nan s m e q p v = elim v [ ]
+same (inf _) s m e q p v = elim v [ ]
 same (fin t zero g) s m e q p v = absurd (omega (arith, v.1, mul-pos (mul-pos (zero-lt-suc m) (up_pos e)) (down_pos g)))
 same (fin t (suc n) g) s m e q p v =
     let r = one_way (suc n) (suc m) g e (proper t n g q).odd p.odd (omega (arith, v.1)) in
@@ -135,6 +137,8 @@ zero_when x d h = let e = eqb→eq (0 * d) x (and_l (eqb (0 * d) x) (eqb (0 * d)
 
 pub not_below_zero : (x : Float) → T (le zero_f x) → lt x zero_f ≡ false
 unfolding lt le eq of_bits
+not_below_zero nan h = elim h [ ]
+not_below_zero (inf true) h = elim h [ ]
 not_below_zero (inf false) h = refl
 not_below_zero (fin false m e) h = ltb_zero (m * up e * 1) (0 * down e) (zero-mul (down e))
 not_below_zero (fin true m e) h = zero_when (m * up e * 1) (down e) h
@@ -149,6 +153,7 @@ not_both x y h k = go (ltb y x) (eqb y x) (ltb→lt y x) (eqb→eq y x) k
 
     go : (a b : Bool) → (T a → y < x) → (T b → y ≡ x) → T (a || b && true) → ⊥
     go true b f g t = let l = f tt in omega (arith, less)
+    go false false f g t = elim t [ ]
     go false true f g t = let l = g tt in omega (arith, less)
 
 not_zero : (y x : ℕ) → 0 < y → T (false || eqb y x && (false || eqb y 0)) → ⊥
@@ -157,6 +162,7 @@ not_zero y x h k = let e = eqb→eq y 0 (and_r (eqb y x) (eqb y 0) k) in omega a
 pub not_above_one : (x : Float) → T (lt x one_f) → le one_f x ≡ false
 unfolding lt le eq of_bits
 not_above_one nan h = refl
+not_above_one (inf false) h = elim h [ ]
 not_above_one (inf true) h = refl
 not_above_one (fin false m e) h = is_false _ (not_T (le (one_of false) (fin false m e)) (λ (k : T (le (one_of false) (fin false m e))). not_both (m * up e * 1) (1 * down e) h k))
 not_above_one (fin true m e) h =
@@ -185,6 +191,8 @@ proper_one = record { odd = refl; few = lit< tt; fine = lit≤ tt; small = lit< 
 
 pub equal_zero : (x : Float) → T (fits binary64 x) → T (eq x (zero_of false)) → (s : Bool) × (x ≡ zero_of s)
 unfolding eq
+equal_zero nan f h = elim h [ ]
+equal_zero (inf _) f h = elim h [ ]
 equal_zero (fin s zero e) f h = (s, λ i. fin s 0 (zero_exp s e f i))
 equal_zero (fin s (suc m) e) f h =
     let a = eqb→eq (suc m * up e * 1) (0 * down e) (and_l (eqb (suc m * up e * 1) (0 * down e)) (beq s false || eqb (suc m * up e * 1) 0) h) in
@@ -198,6 +206,8 @@ sign_of true true n p h = refl
 
 pub equal_one : (t : Bool) (x : Float) → T (fits binary64 x) → T (eq x (one_of t)) → x ≡ one_of t
 unfolding eq
+equal_one t nan f h = elim h [ ]
+equal_one t (inf _) f h = elim h [ ]
 equal_one t (fin s zero e) f h =
     let a = eqb→eq (0 * up e * 1) (1 * down e) (and_l (eqb (0 * up e * 1) (1 * down e)) (beq s t || eqb (0 * up e * 1) 0) h) in
     absurd (omega (arith, a, down_pos e))
@@ -214,6 +224,11 @@ pub data Level : Float → Float → Type 0 where
 
 pub equal_level : (x y : Float) → T (fits binary64 x) → T (fits binary64 y) → T (eq x y) → Level x y
 unfolding eq
+equal_level nan y f g h = elim h [ ]
+equal_level (inf s) nan f g h = elim h [ ]
+equal_level (inf s) (fin t n d) f g h = elim h [ ]
+equal_level (fin s m e) nan f g h = elim h [ ]
+equal_level (fin s m e) (inf t) f g h = elim h [ ]
 equal_level (inf s) (inf t) f g h = subst (λ (u : Bool). Level (inf s) (inf u)) (beq_eq s t h) (itself (inf s))
 equal_level (fin s m e) (fin t n d) f g h =
     let a = m * up e * down d in

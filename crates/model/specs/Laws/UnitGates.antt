@@ -146,6 +146,7 @@ any_of : {X : Type 0} (a b c d : Bool) → T (a || b || c || d) → (T a → X) 
 any_of true b c d h w x y z = w tt
 any_of false true c d h w x y z = x tt
 any_of false false true d h w x y z = y tt
+any_of {X = X} false false false false h w x y z = elim h [ ]
 any_of false false false true h w x y z = z tt
 
 -- the value that a number is
@@ -192,6 +193,14 @@ unfolding each
 lone (unit p) nought nought nought h = record { first = false; second = false; by = p; is = (refl, refl, refl, refl) }
 lone nought (unit p) nought nought h = record { first = false; second = true; by = p; is = (refl, refl, refl, refl) }
 lone nought nought (unit p) nought h = record { first = true; second = false; by = p; is = (refl, refl, refl, refl) }
+lone nought nought nought nought h = elim h [ ]
+lone nought nought (unit p) (unit r) h = elim h [ ]
+lone nought (unit p) nought (unit r) h = elim h [ ]
+lone nought (unit p) (unit q) nought h = elim h [ ]
+lone (unit p) nought nought (unit r) h = elim h [ ]
+lone (unit p) nought (unit q) nought h = elim h [ ]
+lone (unit p) (unit q) nought nought h = elim h [ ]
+lone (unit p) (unit q) (unit r) nought h = elim h [ ]
 lone nought nought nought (unit p) h = record { first = true; second = true; by = p; is = (refl, refl, refl, refl) }
 lone nought (unit p) (unit q) (unit r) h = absurd h
 lone (unit p) nought (unit q) (unit r) h = absurd h

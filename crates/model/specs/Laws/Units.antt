@@ -131,13 +131,21 @@ over_at f h (unit p) = signs_at (f (unit p)) (phases_at (λ p. signs (f (unit p)
 -- ---- what a test says
 
 pub beq_eq : (a b : Bool) → T (beq a b) → a ≡ b
+beq_eq false true h = elim h [ ]
+beq_eq true false h = elim h [ ]
 beq_eq false false h = refl
 beq_eq true true h = refl
 
 zero_of_lem : (x : Float) → T (is_zero_of x) → (s : Bool) × (x ≡ zero_of s)
+zero_of_lem nan h = elim h [ ]
+zero_of_lem (inf _) h = elim h [ ]
+zero_of_lem (fin s m (negsuc _)) h = elim h [ ]
 zero_of_lem (fin s m (pos k)) h = (s, λ i. fin s (eqb→eq m 0 (and_l (eqb m 0) (eqb k 0) h) i) (pos (eqb→eq k 0 (and_r (eqb m 0) (eqb k 0) h) i)))
 
 one_of_lem : (n : Bool) (x : Float) → T (is_one_of n x) → x ≡ one_of n
+one_of_lem n nan h = elim h [ ]
+one_of_lem n (inf _) h = elim h [ ]
+one_of_lem n (fin s m (negsuc _)) h = elim h [ ]
 one_of_lem n (fin s m (pos k)) h =
     let h1 = and_l (beq s n && eqb m 1) (eqb k 0) h in
     λ i. fin (beq_eq s n (and_l (beq s n) (eqb m 1) h1) i) (eqb→eq m 1 (and_r (beq s n) (eqb m 1) h1) i) (pos (eqb→eq k 0 (and_r (beq s n && eqb m 1) (eqb k 0) h) i))

@@ -123,6 +123,8 @@ level_clear (zeros true true) p q = refl
 
 -- a number that is ±a / c, with the sign + or a above 0
 value_clear : (x : Float) (s : Bool) (a c : ℕ) → HasValue x s a c → (T s → 0 < a) → Clear x
+value_clear nan s a c v h = elim v [ ]
+value_clear (inf _) s a c v h = elim v [ ]
 value_clear (fin false m e) s a c v h = tt
 value_clear (fin true zero e) s a c v h = absurd (omega (arith, v.1, mul-pos (h (subst T v.0 tt)) (down_pos e)))
 value_clear (fin true (suc m) e) s a c v h = zero-lt-suc m
@@ -207,4 +209,5 @@ clear_add (fin s m e) (fin t n d) f g h =
     (over (m * up e) (down d) (down e) (2 ^ 1074) M.0 M.1) (over (n * up d) (down e) (down d) (2 ^ 1074) N.0 N.1 ∙ ap (λ (z : ℕ). N.0 * z) (mul_comm (down d) (down e)))
   where
     above : (s : Bool) → T s → Clear (fin s m e) → 0 < m
+    above false k h = elim k [ ]
     above true k h = h
