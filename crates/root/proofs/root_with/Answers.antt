@@ -1,0 +1,33 @@
+-- `root::root_with` meets its contract: each range of patterns has its law in `specs/Patterns.antt`. Assumes nothing.
+use Rattle.std.proofs.Common.{T, sym, ap, ◌∙◌, subst, arith}
+use lib.Ieee.{binary64, fits}
+use lib.Ieee.Bits.{of_bits-to_bits}
+use Rattle.root.specs.Root.{root_of}
+use Rattle.root.specs.Patterns.{not_nan, nan_root, no_root, zero_root, minus_zero_root, below_root, top_root}
+use Rattle.root.proofs.root_with.Goals as goal
+
+pub returns-then-x : goal.returns-then-x
+returns-then-x c = nan_root c.args.x c.if-x.true
+
+pub float_to_bits-b : goal.float_to_bits-b
+float_to_bits-b c = not_nan c.args.x c.if-x.false
+
+pub returns-then-b-eq0 : goal.returns-then-b-eq0
+returns-then-b-eq0 c = let held : T (fits binary64 c.args.x) = subst T (sym c.well_formed.0.1) tt in
+    zero_root c.args.x held c.if-b-eq0.true
+
+pub returns-then-b : goal.returns-then-b
+returns-then-b c = let held : T (fits binary64 c.args.x) = subst T (sym c.well_formed.0.1) tt in
+    minus_zero_root c.args.x held c.if-b.true
+
+pub returns-then-b-gt9223372036854775808 : goal.returns-then-b-gt9223372036854775808
+returns-then-b-gt9223372036854775808 c = let held : T (fits binary64 c.args.x) = subst T (sym c.well_formed.0.1) tt in
+    no_root ∙ below_root c.args.x held c.if-b-gt9223372036854775808.true
+
+pub returns-then-b-ge9218868437227405312 : goal.returns-then-b-ge9218868437227405312
+returns-then-b-ge9218868437227405312 c = let held : T (fits binary64 c.args.x) = subst T (sym c.well_formed.0.1) tt in
+    top_root c.args.x held c.if-b-ge9218868437227405312.true (omega (arith, c.if-b-gt9223372036854775808.false, c.if-b.false))
+
+pub returns : goal.returns
+returns c = let held : T (fits binary64 c.args.x) = subst T (sym c.well_formed.0.1) tt in
+    c.positive.ensures ∙ ap root_of (of_bits-to_bits binary64 c.args.x held)
