@@ -20,6 +20,7 @@ pub enum NamedGate {
 }
 
 // A named gate's matrix. Every zero is +0, the imaginary part of -1 too.
+#[tactic(auto, unfolding(crate::specs::Named::matrix_of, crate::specs::Named::named_entry, crate::specs::Gate::gate_of))]
 pub fn matrix_4x4(name: NamedGate) -> [[Complex; 4]; 4]
     ensures { result ≡ matrix_of name }
 {
@@ -41,6 +42,7 @@ fn swapped(row: [Complex; 4]) -> [Complex; 4]
 }
 
 // The gate with its two qubits exchanged, in the rows and in the columns.
+#[tactic(auto, unfolding(crate::specs::Gate::swap_gate_qubits, crate::specs::Gate::gate_of))]
 pub fn swap_gate_qubits(gate: [[Complex; 4]; 4]) -> [[Complex; 4]; 4]
     ensures { result ≡ swap_gate_qubits gate }
 {
@@ -53,18 +55,21 @@ pub fn swap_gate_qubits(gate: [[Complex; 4]; 4]) -> [[Complex; 4]; 4]
 }
 
 // Whether x is neither a NaN nor an infinity. Where it is one, x - x is a NaN.
+#[tactic(auto, using(crate::specs::Finite::finite_minus))]
 pub fn finite(x: f64) -> bool
     ensures { result ≡ finite x }
 {
     x - x == 0.0
 }
 
+#[tactic(auto, unfolding(crate::specs::Finite::finite_c))]
 fn finite_parts(z: Complex) -> bool
     ensures { result ≡ finite_c z }
 {
     finite(z.re) & finite(z.im)
 }
 
+#[tactic(auto, unfolding(complex::specs::Loops::every))]
 fn finite_row(row: [Complex; 4]) -> bool
     ensures { result ≡ every 4 (λ c. finite_c (number row c)) }
 {
@@ -72,6 +77,7 @@ fn finite_row(row: [Complex; 4]) -> bool
 }
 
 // Whether all 32 parts are finite.
+#[tactic(auto, unfolding(complex::specs::Loops::every, crate::specs::Finite::all_finite))]
 pub fn is_finite(gate: [[Complex; 4]; 4]) -> bool
     ensures { result ≡ all_finite gate }
 {
