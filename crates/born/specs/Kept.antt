@@ -12,7 +12,7 @@ use Rattle.complex.specs.Numbers.{at, store, numbers, length_store, at_store_sam
 use Rattle.complex.specs.Parts.{part, put}
 use Rattle.complex.specs.Matrix.{rows, length_rows, at_rows, rows_same, block_none, length_blocks, block_more}
 use Rattle.complex.specs.declared.Complex.{Complex}
-use Rattle.model.specs.Laws.Tests.{below_or_past}
+use Rattle.model.proofs.Laws.Tests.{below_or_past}
 use Rattle.model.specs.Slots.{filled, amplitude}
 use Rattle.model.specs.Born.{bit_of, weight, rescale, projected_site, reset_site}
 use Rattle.columns.specs.Cleared.{rows_cleared}

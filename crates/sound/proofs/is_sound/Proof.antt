@@ -7,7 +7,7 @@ use lib.Ieee.{Float}
 use lib.Ieee.Fits.{and_l, and_r}
 use lib.ListN.{length}
 use Rattle.model.specs.Sound.{settings_fit, within, bonds_fit, sound, sized}
-use Rattle.model.specs.Laws.SoundFacts.{settings_facts}
+use Rattle.model.proofs.Laws.SoundFacts.{settings_facts}
 use borrow.Author.Rules.{rules}
 use Rattle.sound.proofs.is_sound.Statement.{statement}
 use Rattle.sound.proofs.is_sound.Tie as tie
