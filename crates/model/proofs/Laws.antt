@@ -43,5 +43,6 @@ pub mod UnitFloats
 pub mod UnitGates
 pub mod UnitSites
 pub mod Units
+pub mod WorkspaceEnough
 pub mod ZeroFloats
 pub mod ZeroSigns

@@ -33,7 +33,7 @@ use Rattle.model.specs.Statements.Uncapped.{with_exponent, under, AsAt63}
 use Rattle.model.proofs.Laws.MoveLaws.{last_site, established_narrowed}
 use Rattle.model.proofs.Laws.SoundKept.{narrowed_keeps, attempt_keeps, Inside, inside_first, inside_last, stepped_keeps, run_steps_keeps, gate_accepted}
 use Rattle.model.proofs.Laws.StartLaws.{start_accepted}
-use Rattle.model.proofs.Laws.NeverSix.{workspace_enough}
+use Rattle.model.proofs.Laws.WorkspaceEnough.{workspace_enough}
 
 -- a test between mapped values is the map of the test
 mapped : {A B : Type 0} (f : A → B) (b : Bool) {x y : A} {x' y' : B} → (b ≡ true → x' ≡ f x) → y' ≡ f y → cond b x' y' ≡ f (cond b x y)

@@ -1,12 +1,10 @@
 -- With a workspace exponent of 64 or more no call answers 6: a sound record's bonds are at most 128, so that a cut works in at most 22 * 128 * 128 numbers.
-use Rattle.std.specs.Prelude.{ℕ, ◌+◌, ◌^◌, ◌≤◌, ◌<◌, ◌≢◌, Bool, true, not, ◌&&◌, List, [], ◌∷◌, T, eqb, Float}
-use Rattle.std.proofs.Common.{sym, subst, ◌∙◌, inl, inr, mul-le-mul, arith}
-use Rattle.std.proofs.Math.Nat.{pow-le-pow_right}
+use Rattle.std.specs.Prelude.{ℕ, ◌≢◌, Bool, true, not, ◌&&◌, List, [], ◌∷◌, T, eqb, Float}
+use Rattle.std.proofs.Common.{sym, subst, ◌∙◌, inl, inr, arith}
 use Rattle.std.specs.Float.Ieee.Fits.{and_l, and_r}
 use Rattle.complex.specs.declared.Complex.{Complex}
 use Rattle.gates.specs.Named.{matrix_of}
-use Rattle.model.specs.Slots.{State, held, lefts, rights}
-use Rattle.model.specs.Truncation.{workspace}
+use Rattle.model.specs.Slots.{State, held}
 use Rattle.model.specs.Routing.{Step, stepped}
 use Rattle.model.specs.Start.{fresh_chain}
 use Rattle.model.specs.Answers.{view_applied}
@@ -16,24 +14,13 @@ use Rattle.model.specs.Statements.Soundness.{Sound}
 use Rattle.model.specs.Statements.Table.{Row, FirstGround, cut_rows, gate_steps, project_table, measure_table, reset_table, environment_table}
 use Rattle.model.proofs.Laws.CallsSound.{start_accepted_sound, list_keeps}
 use Rattle.model.specs.Statements.Uncapped.{NeverSix}
-use Rattle.model.proofs.Laws.SoundFacts.{left_most, right_most}
 use Rattle.model.proofs.Laws.SoundKept.{Inside, stepped_keeps, gate_accepted}
 use Rattle.model.proofs.Laws.StartLaws.{start_accepted}
 use Rattle.model.proofs.Laws.Refusals.{project_refusals, measure_refusals, reset_refusals, left_environment_refusals, right_environment_refusals}
 use Rattle.model.proofs.Laws.Gates.{run_first, gate_ran, run_number}
-
-abbrev Uncapped : State → Type 0
-Uncapped s = 64 ≤ s.chain.workspace_exponent
+use Rattle.model.proofs.Laws.WorkspaceEnough.{Uncapped, workspace_enough}
 
 -- ---- cuts
-
--- 2 to an exponent of 63 or more is enough for a cut of a sound record
-pub workspace_enough : (k : ℕ) (s : State) → Sound s.chain → k + 1 < s.chain.num_qubits → (e : ℕ) → 63 ≤ e → workspace (lefts s k) (rights s k) (rights s (k + 1)) ≤ 2 ^ e
-workspace_enough k s h inside e l =
-    let right = right_most s.chain h (k + 1) inside in
-    let cap = h.settings.cap.1 in
-    let room : 2 ^ 63 ≤ 2 ^ e = pow-le-pow_right {n = 2} (omega arith) l in
-    omega (arith, mul-le-mul (left_most s.chain h k (omega arith)) right, mul-le-mul (right_most s.chain h k (omega arith)) right, mul-le-mul cap cap)
 
 cuts_not_6 : (xs : List Step) (s : State) → Sound s.chain → Inside s.chain.num_qubits xs → Uncapped s → (k : ℕ) → FirstGround (cut_rows xs s) k → k ≢ 6
 cuts_not_6 [] s h inside l k e six = omega arith
