@@ -1,0 +1,17 @@
+use native.Mathlib.Nat.{le_antisymm}
+use native.Mathlib.Omega.{arith}
+use Rattle.complex.specs.Loops.{each_none, each_more}
+use Rattle.complex.specs.Numbers.{stores_numbers}
+use Rattle.columns.proofs.conj_row.Goals as goal
+
+pub loop-c-init : goal.loop-c-init
+loop-c-init c = (omega arith, omega arith, rw each_none)
+
+pub overflow_step-c : goal.overflow_step-c
+overflow_step-c c = omega (arith, c.loop-c-test.true)
+
+pub loop-c-preserved : goal.loop-c-preserved
+loop-c-preserved c = (omega arith, omega arith, rw (each_more, c.set_complex.ensures, c.conj.ensures, c.complex_at.ensures, c.loop-c.invariant.2))
+
+pub returns : goal.returns
+returns c = rw (c.loop-c.invariant.2, le_antisymm c.loop-c.invariant.0 c.loop-c-test.false) (stores_numbers c.args.n _ c.args.out.now c.requires.0)
