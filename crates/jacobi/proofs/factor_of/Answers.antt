@@ -7,8 +7,7 @@ use Rattle.complex.specs.Complex.{mul_c}
 use Rattle.complex.specs.declared.Complex.{Complex}
 use Rattle.jacobi.specs.Factors.{applied}
 use Rattle.jacobi.proofs.Signs.{mul_neg}
-use Rattle.jacobi.proofs.factor_of.Statement.{statement}
-use Rattle.jacobi.proofs.factor_of.Tie as tie
+use Rattle.jacobi.proofs.factor_of.Goals as goal
 
 with-nan : (i : Float) (z : Complex) → applied (record { re = nan; im = nan; minus_im = nan }) z ≡ mul_c (record { re = nan; im = i }) z
 unfolding mul_c add sub mul
@@ -18,11 +17,8 @@ without : (a : Complex) (z : Complex) → applied (record { re = a.re; im = a.im
 unfolding mul_c sub
 without a z = rw (mul_neg binary64 a.im z.im)
 
-returns : tie.Need-returns
-returns c = let a = c.before.before.args.a in rw (differs_from_itself a.re (subst T (sym c.if1.true) tt)) (with-nan a.im)
+pub returns-then-a : goal.returns-then-a
+returns-then-a c = let a = c.args.a in rw (differs_from_itself a.re (subst T (sym c.if-a.true) tt)) (with-nan a.im)
 
-returns-2 : tie.Need-returns-2
-returns-2 c = without c.before.before.before.args.a
-
-pub factor-of-spec : {M : Type 1} → statement M
-factor-of-spec = tie.close (tie.spec returns returns-2)
+pub returns : goal.returns
+returns c = without c.args.a
