@@ -1,5 +1,5 @@
 use mathlib.Core.Path.{◌≡◌}
-use Prim.Native.Nat.{◌≤◌, ◌-◌, ◌+◌, ◌*◌}
+use Prim.Native.Nat.{◌≤◌, ◌+◌, ◌*◌}
 use Rattle.complex.specs.Complex.{mul_c, conj_c, zero_c}
 use Rattle.complex.specs.Loops.{sum_c}
 use Rattle.complex.specs.Numbers.{at}

@@ -1,7 +1,7 @@
 use mathlib.Core.Path.{◌≡◌, ◌∙◌}
 use mathlib.Core.List.{List}
 use Prim.Native.Nat.{ℕ, ◌+◌, ◌*◌}
-use native.Mathlib.Nat.{le_antisymm, mul-le-mul_right}
+use native.Mathlib.Nat.{le_antisymm}
 use native.Mathlib.Omega.{arith}
 use lib.Ieee.{Float}
 use Rattle.complex.specs.Loops.{each_none, each_more, each_agree}
@@ -18,30 +18,6 @@ paired turn t h i j w = rw (h.on_p (at w i) (at w j), h.on_q (at w i) (at w j))
 
 pub loop-r-init : goal.loop-r-init
 loop-r-init c = (omega arith, omega arith, rw each_none)
-
-pub overflow_mul-p : goal.overflow_mul-p
-overflow_mul-p c = omega (arith, mul-le-mul_right c.args.m c.requires.0)
-
-pub overflow_add-p : goal.overflow_add-p
-overflow_add-p c = omega (arith, mul-le-mul_right c.args.m c.requires.0)
-
-pub overflow_add-base : goal.overflow_add-base
-overflow_add-base c = omega (arith, mul-le-mul_right c.args.m c.requires.0)
-
-pub overflow_mul-q : goal.overflow_mul-q
-overflow_mul-q c = omega (arith, mul-le-mul_right c.args.m c.requires.0)
-
-pub overflow_add-q : goal.overflow_add-q
-overflow_add-q c = omega (arith, mul-le-mul_right c.args.m c.requires.0)
-
-pub overflow_add-base-in-loop-r : goal.overflow_add-base-in-loop-r
-overflow_add-base-in-loop-r c = omega (arith, mul-le-mul_right c.args.m c.requires.0)
-
-pub rotate_pair-requires : goal.rotate_pair-requires
-rotate_pair-requires c = omega (arith, mul-le-mul_right c.args.m c.requires.0)
-
-pub loop-r-smaller : goal.loop-r-smaller
-loop-r-smaller c = omega (arith, mul-le-mul_right c.args.m c.requires.0)
 
 pub loop-r-preserved : goal.loop-r-preserved
 loop-r-preserved c = (omega arith, omega arith, rw (each_more, c.rotate_pair.ensures, c.loop-r.invariant.2))

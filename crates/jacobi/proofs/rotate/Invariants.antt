@@ -1,6 +1,6 @@
 -- The invariant: the first r rows are rotated by the factors.
 use mathlib.Core.Path.{◌≡◌}
-use Prim.Native.Nat.{◌≤◌, ◌-◌, ◌+◌, ◌*◌}
+use Prim.Native.Nat.{◌≤◌, ◌+◌, ◌*◌}
 use lib.ListN.{length}
 use Rattle.complex.specs.Loops.{each}
 use Rattle.jacobi.specs.Factors.{turned_pair}

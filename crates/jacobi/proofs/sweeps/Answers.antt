@@ -1,11 +1,8 @@
-use mathlib.Core.Path.{refl, sym, ap, ◌∙◌}
+use mathlib.Core.Path.{sym, ap, ◌∙◌}
 use mathlib.Core.Bool.{not}
 use native.Mathlib.Omega.{arith}
 use Rattle.jacobi.proofs.Turns.{sweeps_done, sweeps_out, sweeps_on}
 use Rattle.jacobi.proofs.sweeps.Goals as goal
-
-pub loop-k-init : goal.loop-k-init
-loop-k-init c = (omega arith, omega arith, refl)
 
 pub returns-then-not-rotated : goal.returns-then-not-rotated
 returns-then-not-rotated c = sym (sweeps_out _ _ 100 c.loop-k.k _ _ (omega arith) _ c.sweep-rotated.ensures (ap not c.if-not-rotated.true)) ∙ c.loop-k.invariant.2
