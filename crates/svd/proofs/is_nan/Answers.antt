@@ -4,15 +4,15 @@ use mathlib.Core.Bool.{Bool, true, false, not, ◌&&◌, ◌||◌, beq}
 use Prim.Native.Nat.{ℕ, ◌*◌}
 use lib.Dec.{T, eqb, eqb_refl}
 use lib.Ieee.{Float, nan, inf, fin, up, down, is_nan, ne, eq}
-use Rattle.svd.proofs.is_nan.Statement.{statement}
-use Rattle.svd.proofs.is_nan.Tie as tie
+use Rattle.svd.proofs.is_nan.Goals as goal
 
 is_true : (b : Bool) → T b → b ≡ true
 is_true true t = refl
 is_true false t = absurd t
 
 both : (s : Bool) (n : ℕ) → not (eqb n n && (beq s s || eqb n 0)) ≡ false
-both s n = rw (is_true (eqb n n) (eqb_refl n)) (elim s [ true ↦ refl | false ↦ refl ])
+both true n = rw (is_true (eqb n n) (eqb_refl n))
+both false n = rw (is_true (eqb n n) (eqb_refl n))
 
 ne-self : (x : Float) → ne x x ≡ is_nan x
 unfolding ne eq is_nan
@@ -21,8 +21,5 @@ ne-self (inf true) = refl
 ne-self (inf false) = refl
 ne-self (fin s m e) = both s (m * up e * down e)
 
-returns : tie.Need-returns
+pub returns : goal.returns
 returns c = ne-self c.args.x
-
-pub is-nan-spec : {M : Type 1} → statement M
-is-nan-spec = tie.close (tie.spec returns)
