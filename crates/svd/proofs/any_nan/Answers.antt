@@ -1,8 +1,6 @@
-use mathlib.Core.Bool.{false}
 use native.Mathlib.Nat.{le_antisymm}
 use native.Mathlib.Omega.{arith}
 use Rattle.complex.specs.Loops.{each_none, each_more}
-use Rattle.complex.specs.Numbers.{at}
 use Rattle.model.specs.Svd.{any_nan}
 use Rattle.svd.proofs.any_nan.Goals as goal
 

@@ -1,7 +1,6 @@
 use native.Mathlib.Nat.{le_antisymm}
 use native.Mathlib.Omega.{arith}
 use Rattle.complex.specs.Loops.{each_none, each_more}
-use Rattle.complex.specs.Numbers.{at}
 use Rattle.model.specs.Svd.{earlier}
 use Rattle.svd.proofs.count_earlier.Goals as goal
 

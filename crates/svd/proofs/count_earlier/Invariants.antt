@@ -1,5 +1,5 @@
 use mathlib.Core.Path.{◌≡◌}
-use Prim.Native.Nat.{◌≤◌, ◌-◌, ◌+◌}
+use Prim.Native.Nat.{◌≤◌, ◌+◌}
 use lib.Ieee.{le}
 use Rattle.complex.specs.Loops.{each}
 use Rattle.complex.specs.Numbers.{at}

@@ -2,7 +2,6 @@ use Prim.Native.Nat.{◌≤◌, ◌+◌}
 use native.Mathlib.Nat.{le_antisymm}
 use native.Mathlib.Omega.{arith}
 use Rattle.complex.specs.Loops.{between_none, between_more}
-use Rattle.complex.specs.Numbers.{at}
 use Rattle.model.specs.Svd.{later}
 use Rattle.svd.proofs.count_later.Goals as goal
 

@@ -1,4 +1,4 @@
-use native.Mathlib.Nat.{le_antisymm, mul-le-mul_right}
+use native.Mathlib.Nat.{le_antisymm}
 use native.Mathlib.Omega.{arith}
 use Rattle.complex.specs.Loops.{each_none, each_more}
 use Rattle.model.specs.Svd.{identity_at}
@@ -6,18 +6,6 @@ use Rattle.svd.proofs.set_diagonal.Goals as goal
 
 pub loop-i-init : goal.loop-i-init
 loop-i-init c = (omega arith, omega arith, rw each_none)
-
-pub overflow_mul-i : goal.overflow_mul-i
-overflow_mul-i c = omega (arith, mul-le-mul_right c.args.n c.loop-i-test.true)
-
-pub overflow_add-i : goal.overflow_add-i
-overflow_add-i c = omega (arith, mul-le-mul_right c.args.n c.loop-i-test.true)
-
-pub overflow_add-base : goal.overflow_add-base
-overflow_add-base c = omega (arith, mul-le-mul_right c.args.n c.loop-i-test.true)
-
-pub set_complex-requires : goal.set_complex-requires
-set_complex-requires c = omega (arith, mul-le-mul_right c.args.n c.loop-i-test.true)
 
 pub loop-i-preserved : goal.loop-i-preserved
 loop-i-preserved c = (omega arith, omega arith, rw (each_more, c.set_complex.ensures, c.loop-i.invariant.2))

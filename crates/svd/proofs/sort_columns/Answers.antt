@@ -2,7 +2,6 @@ use native.Mathlib.Nat.{le_antisymm}
 use native.Mathlib.Omega.{arith}
 use lib.ListN.{length-set}
 use Rattle.complex.specs.Loops.{each_none, each_more}
-use Rattle.complex.specs.Numbers.{at}
 use Rattle.model.specs.Svd.{order_of}
 use Rattle.svd.proofs.sort_columns.Goals as goal
 

@@ -1,6 +1,6 @@
 -- The invariant: the first j columns are in their places.
 use mathlib.Core.Path.{◌≡◌}
-use Prim.Native.Nat.{◌≤◌, ◌-◌, ◌+◌}
+use Prim.Native.Nat.{◌≤◌, ◌+◌}
 use lib.ListN.{length, set}
 use Rattle.complex.specs.Loops.{each}
 use Rattle.complex.specs.Numbers.{at}

@@ -1,6 +1,6 @@
 -- The invariant: the first g values are in order.
 use mathlib.Core.Path.{◌≡◌}
-use Prim.Native.Nat.{◌≤◌, ◌-◌, ◌+◌}
+use Prim.Native.Nat.{◌≤◌, ◌+◌}
 use lib.ListN.{length, get_or, take}
 use Rattle.complex.specs.Loops.{tabulate}
 use Rattle.complex.specs.Numbers.{at}
