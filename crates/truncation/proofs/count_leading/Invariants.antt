@@ -1,6 +1,6 @@
 -- The invariant: the first k values lead, and it is left to count from there.
 use mathlib.Core.Path.{◌≡◌}
-use Prim.Native.Nat.{◌≤◌, ◌-◌, ◌+◌}
+use Prim.Native.Nat.{◌≤◌, ◌+◌}
 use lib.ListN.{length, drop}
 use Rattle.model.specs.Truncation.{leading}
 use Rattle.truncation.proofs.count_leading.Given as goal
