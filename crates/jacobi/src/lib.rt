@@ -163,7 +163,7 @@ fn rotate(w: &mut [f64], base: usize, m: usize, p: usize, q: usize, t: Rotation)
 // Columns p and q of both matrices, rotated unless they are skipped. Answers whether a pair was rotated so far.
 fn pair_step(w: &mut [f64], high: usize, wide: usize, p: usize, q: usize, before: bool) -> bool
     requires { (p < q) × (q < wide) × (wide * high + wide * wide ≤ count w.old) }
-    ensures { jacobi.swept result w.new ≡ jacobi.pairStep high wide p q (jacobi.swept before w.old) }
+    ensures { jacobi.swept result w.new ≡ jacobi.pair_step high wide p q (jacobi.swept before w.old) }
 {
     let g = gram(w, high, p, q);
     if skipped(g) {
@@ -178,7 +178,7 @@ fn pair_step(w: &mut [f64], high: usize, wide: usize, p: usize, q: usize, before
 // Column p with each column after it.
 fn row_of_pairs(w: &mut [f64], high: usize, wide: usize, p: usize, before: bool) -> bool
     requires { (p < wide) × (wide * high + wide * wide ≤ count w.old) }
-    ensures { jacobi.swept result w.new ≡ jacobi.rowOfPairs high wide p (jacobi.swept before w.old) }
+    ensures { jacobi.swept result w.new ≡ jacobi.row_of_pairs high wide p (jacobi.swept before w.old) }
 {
     let mut rotated = before;
     for q in p + 1..wide {

@@ -1,0 +1,9 @@
+use mathlib.Core.Path.{◌≡◌}
+use Prim.Native.Nat.{◌≤◌}
+use lib.ListN.{length}
+use Rattle.complex.specs.Loops.{each}
+use Rattle.model.specs.Svd.{normalised}
+use Rattle.svd.proofs.normalise_columns.Given as goal
+
+abbrev pub invariant-loop-j : goal.invariant-loop-j
+invariant-loop-j l = (l.j ≤ l.wide) × (length l.w ≡ length l.initial.w) × (l.w ≡ each l.j (normalised l.high l.wide l.clamp) l.initial.w)
