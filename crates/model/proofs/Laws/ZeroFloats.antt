@@ -12,7 +12,8 @@ use Rattle.std.specs.Float.Ieee.Fits.{and_r, up_pos, down_pos, round_is, round-f
 use Rattle.std.specs.Float.Ieee.Exact.{HasValue, odd_sign}
 use Rattle.std.specs.Float.Ieee.Nearest.{nearest-ge}
 use Rattle.std.specs.Float.Ieee.Scale.{finite}
-use Rattle.root.specs.Units.{in_units, units_exact}
+use Rattle.root.specs.Units.{in_units}
+use Rattle.root.proofs.Laws.Units.{units_exact}
 use Rattle.gates.specs.Finite.{zero_round}
 use Rattle.model.specs.Statements.Demand3.{F64}
 use Rattle.model.proofs.Laws.Tests.{either_way, by_test}

@@ -1,5 +1,6 @@
 use Rattle.std.proofs.Common.{◌+◌, ◌*◌, ◌/◌, ◌%◌, ◌^◌, inl, inr, le_antisymm, arith}
-use Rattle.root.specs.Digits.{Digit, before_turns, root_lt, after_turns, digit_le, turn}
+use Rattle.root.specs.Digits.{Digit}
+use Rattle.root.proofs.Laws.Digits.{before_turns, root_lt, after_turns, digit_le, turn}
 use Rattle.root.proofs.digits.Goals as goal
 use Rattle.root.proofs.digits.Goals.{then-t-c, else-t-c}
 

@@ -1,10 +1,11 @@
 -- `root::finite_norm` meets its contract (`specs/NormMethod.antt`). Assumes nothing.
 use Rattle.std.proofs.Common.{ℕ, ◌+◌, ◌-◌, ◌/◌, ◌%◌, ◌^◌, ◌<◌, ◌≤◌, Bool, ◌||◌, ltb, ap, ◌∙◌, ap₂, le_of_lt, arith}
-use Rattle.root.specs.Units.{pattern_real}
-use Rattle.root.specs.FromUnits.{decoded_exponent}
-use Rattle.root.specs.Wide.{upper_lt, upper_ge}
+use Rattle.root.proofs.Laws.Units.{pattern_real}
+use Rattle.root.proofs.Laws.FromUnits.{decoded_exponent}
+use Rattle.root.proofs.Laws.Wide.{upper_lt, upper_ge}
 use Rattle.root.specs.HalfRoot.{half_root}
-use Rattle.root.specs.NormMethod.{scaled_sum, exponents_ordered, far, near, longer_le, longer_range}
+use Rattle.root.specs.NormMethod.{scaled_sum}
+use Rattle.root.proofs.Laws.NormMethod.{exponents_ordered, far, near, longer_le, longer_range}
 use Rattle.root.proofs.finite_norm.Goals as goal
 
 pub overflow_sub-k : goal.overflow_sub-k

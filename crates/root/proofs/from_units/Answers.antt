@@ -1,7 +1,7 @@
 -- `root::from_units` meets its contract, by the patterns' laws in `specs/FromUnits.antt`. Assumes nothing.
 use Rattle.std.proofs.Common.{le_refl, arith}
-use Rattle.root.specs.Units.{pattern_real}
-use Rattle.root.specs.FromUnits.{pattern_below, pattern_above}
+use Rattle.root.proofs.Laws.Units.{pattern_real}
+use Rattle.root.proofs.Laws.FromUnits.{pattern_below, pattern_above}
 use Rattle.root.proofs.from_units.Goals as goal
 
 pub float_from_bits-result : goal.float_from_bits-result

@@ -1,8 +1,8 @@
 -- `root::half_root` meets its contract: what `is_half` says is enough (`specs/HalfRoot.antt`). Assumes nothing.
 use Rattle.std.proofs.Common.{◌^◌, ◌<◌, sym, ◌∙◌, arith, ltb-true}
 use mathlib.Core.Bool.{and-eq-true_iff}
-use Rattle.root.specs.Patterns.{not_nan}
-use Rattle.root.specs.HalfRoot.{tested_digits, tested}
+use Rattle.root.proofs.Laws.Patterns.{not_nan}
+use Rattle.root.proofs.Laws.HalfRoot.{tested_digits, tested}
 use Rattle.root.proofs.half_root.Goals as goal
 
 pub float_to_bits-guess : goal.float_to_bits-guess

@@ -1,7 +1,7 @@
 -- `root::half_root_beside` meets its contract: what `is_half` says is enough (`specs/HalfRoot.antt`). Assumes nothing.
 use Rattle.std.proofs.Common.{◌-◌, ◌^◌, ◌<◌, sym, ◌∙◌, arith, ltb-true}
 use mathlib.Core.Bool.{and-eq-true_iff}
-use Rattle.root.specs.HalfRoot.{tested_digits, tested}
+use Rattle.root.proofs.Laws.HalfRoot.{tested_digits, tested}
 use Rattle.root.proofs.half_root_beside.Goals as goal
 
 pub overflow_add-h : goal.overflow_add-h

@@ -1,7 +1,7 @@
 -- `root::half_root_by_digits` meets its contract: two runs of `digits` find the whole root (`specs/HalfRoot.antt`). Assumes nothing.
 use Rattle.std.proofs.Common.{ℕ, false, ap, ◌∙◌}
 use lib.Ieee.{binary64, units}
-use Rattle.root.specs.HalfRoot.{first_few, half_digits, half_found}
+use Rattle.root.proofs.Laws.HalfRoot.{first_few, half_digits, half_found}
 use Rattle.root.proofs.half_root_by_digits.Goals as goal
 
 pub digits-found-requires : goal.digits-found-requires

@@ -1,7 +1,7 @@
 -- `root::magnitude` meets its contract. Assumes nothing.
 use Rattle.std.proofs.Common.{T, sym, refl, subst}
 use lib.Ieee.{binary64, fits}
-use Rattle.root.specs.Patterns.{not_nan, nan_magnitude}
+use Rattle.root.proofs.Laws.Patterns.{not_nan, nan_magnitude}
 use Rattle.root.proofs.magnitude.Goals as goal
 
 pub returns-then-x : goal.returns-then-x

@@ -1,6 +1,6 @@
 -- `root::nearest_half` meets its contract. Assumes nothing.
 use Rattle.std.proofs.Common.{sym, ⊎_elim, lt-ltb, le-ltb}
-use Rattle.root.specs.NearestHalf.{half_more, half_exact}
+use Rattle.root.proofs.Laws.NearestHalf.{half_more, half_exact}
 use Rattle.root.proofs.nearest_half.Goals as goal
 
 pub returns-then-found-gt0 : goal.returns-then-found-gt0

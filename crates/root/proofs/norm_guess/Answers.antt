@@ -1,5 +1,5 @@
 -- `root::norm_guess` is safe. Assumes nothing.
-use Rattle.root.specs.Patterns.{not_nan}
+use Rattle.root.proofs.Laws.Patterns.{not_nan}
 use Rattle.root.proofs.norm_guess.Goals as goal
 
 pub float_to_bits-z : goal.float_to_bits-z

@@ -1,12 +1,13 @@
 -- `root::norm_with` meets its contract: the parts' patterns without signs tell which case of `norm_of` it is (`specs/Magnitude.antt`). Assumes nothing.
 use Rattle.std.proofs.Common.{◌≡◌, ◌<◌, ap, ◌∙◌, le_refl}
 use lib.Ieee.{binary64, of_bits}
-use Rattle.root.specs.Units.{pattern_real}
-use Rattle.root.specs.Patterns.{top, no_root}
+use Rattle.root.proofs.Laws.Units.{pattern_real}
+use Rattle.root.specs.Patterns.{top}
+use Rattle.root.proofs.Laws.Patterns.{no_root}
 use Rattle.root.specs.NearestRoot.{nearest_root}
 use Rattle.root.specs.Norm.{sum_of_squares, norm_of}
-use Rattle.root.specs.FromUnits.{top_value}
-use Rattle.root.specs.Magnitude.{size_infinite, size_nan, patterns_below, size_finite, in_order, either_order}
+use Rattle.root.proofs.Laws.FromUnits.{top_value}
+use Rattle.root.proofs.Laws.Magnitude.{size_infinite, size_nan, patterns_below, size_finite, in_order, either_order}
 use Rattle.root.proofs.norm_with.Goals as goal
 
 pub float_from_bits-result : goal.float_from_bits-result

@@ -1,6 +1,6 @@
 -- `root::pattern` meets its contract. Assumes nothing.
 use Rattle.std.proofs.Common.{refl, lt_irrefl}
-use Rattle.root.specs.Patterns.{not_nan}
+use Rattle.root.proofs.Laws.Patterns.{not_nan}
 use Rattle.root.proofs.pattern.Goals as goal
 
 pub returns-then-x : goal.returns-then-x

@@ -1,6 +1,6 @@
 -- `root::positive` meets its contract (`specs/RootMethod.antt`). Assumes nothing.
 use Rattle.std.proofs.Common.{◌∙◌, arith, lit<}
-use Rattle.root.specs.RootMethod.{zeros_range, exponents, hi_range, root_found}
+use Rattle.root.proofs.Laws.RootMethod.{zeros_range, exponents, hi_range, root_found}
 use Rattle.root.proofs.positive.Goals as goal
 
 pub overflow_cast-z : goal.overflow_cast-z

@@ -1,6 +1,6 @@
 -- `root::quotient` meets its contract (`specs/Wide.antt`). Assumes nothing.
 use Rattle.std.proofs.Common.{ltb, refl, ap, arith}
-use Rattle.root.specs.Wide.{divisor_pos, quotient_low, quotient_whole, quotient_left}
+use Rattle.root.proofs.Laws.Wide.{divisor_pos, quotient_low, quotient_whole, quotient_left}
 use Rattle.root.proofs.quotient.Goals as goal
 
 pub nonzero_div-hi : goal.nonzero_div-hi

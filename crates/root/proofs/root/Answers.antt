@@ -1,6 +1,6 @@
 -- `root::root` meets its contract. Assumes nothing.
 use Rattle.std.proofs.Common.{ℕ, ◌<◌, T, sym, ◌∙◌, subst, lit<}
-use Rattle.root.specs.Patterns.{one_root}
+use Rattle.root.proofs.Laws.Patterns.{one_root}
 use Rattle.root.proofs.root.Goals as goal
 
 pub returns-then-pattern-eq4607182418800017408 : goal.returns-then-pattern-eq4607182418800017408

@@ -3,7 +3,7 @@ use Rattle.std.proofs.Common.{T, sym, ap, ◌∙◌, subst, arith}
 use lib.Ieee.{binary64, fits}
 use lib.Ieee.Bits.{of_bits-to_bits}
 use Rattle.root.specs.Root.{root_of}
-use Rattle.root.specs.Patterns.{not_nan, nan_root, no_root, zero_root, minus_zero_root, below_root, top_root}
+use Rattle.root.proofs.Laws.Patterns.{not_nan, nan_root, no_root, zero_root, minus_zero_root, below_root, top_root}
 use Rattle.root.proofs.root_with.Goals as goal
 
 pub returns-then-x : goal.returns-then-x

@@ -1,7 +1,7 @@
 -- `root::scaled_sum` meets its contract. Assumes nothing.
 use Rattle.std.proofs.Common.{ℕ, ◌+◌, ◌/◌, ◌%◌, ◌^◌, Bool, ◌||◌, ltb, ap, ◌∙◌, ap₂, le_trans, le_of_eq, lt_of_le_of_lt, div-le_self}
-use Rattle.root.specs.Wide.{upper_lt}
-use Rattle.root.specs.NormMethod.{square_below}
+use Rattle.root.proofs.Laws.Wide.{upper_lt}
+use Rattle.root.proofs.Laws.NormMethod.{square_below}
 use Rattle.root.proofs.scaled_sum.Goals as goal
 
 pub sum-requires : goal.sum-requires

@@ -1,6 +1,6 @@
 -- `root::square` meets its contract (`specs/Wide.antt`). Assumes nothing.
 use Rattle.std.proofs.Common.{refl, arith}
-use Rattle.root.specs.Wide.{products, square_whole}
+use Rattle.root.proofs.Laws.Wide.{products, square_whole}
 use Rattle.root.proofs.square.Goals as goal
 
 pub overflow_mul-c : goal.overflow_mul-c

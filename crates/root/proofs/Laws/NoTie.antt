@@ -1,8 +1,8 @@
 -- Why the root of an f64 is no midpoint of two of them: an exact root of a short number is short itself. Nothing here is about floats. Assumes nothing.
 use Rattle.std.specs.Prelude.{◌≡◌, ℕ, zero, suc, ◌+◌, ◌*◌, ◌/◌, ◌%◌, ◌^◌, ◌<◌, ◌≢◌}
 use Rattle.std.proofs.Common.{sym, ap, ◌∙◌, subst, inl, inr, lt_of_le_of_lt, le_of_eq, mul-one, mul_assoc, pow-suc, arith}
-use Rattle.root.specs.Whole.{side_lt}
-use Rattle.root.specs.NearestHalf.{parity}
+use Rattle.root.proofs.Laws.Whole.{side_lt}
+use Rattle.root.proofs.Laws.NearestHalf.{parity}
 
 even_root : (s : ℕ) → s * s % 2 ≡ 0 → s % 2 ≡ 0
 even_root s e = elim (parity s) [ inl f ↦ f | inr f ↦ absurd (odd_square (s / 2) (subst (λ (x : ℕ). x * x % 2 ≡ 0) (halves f) e)) ]

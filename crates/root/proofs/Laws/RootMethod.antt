@@ -4,15 +4,20 @@ use Rattle.std.proofs.Common.{sym, ap, ◌∙◌, subst, inl, inr, add-zero, eq-
 use Rattle.std.specs.Int.Count.{count_leading_zeros}
 use Rattle.std.proofs.lemmas.Nat.{leading_top}
 use Rattle.std.specs.Float.{binary64}
-use Rattle.root.specs.Units.{in_units, four_units}
-use Rattle.root.specs.Root.{root_of, root_instance}
+use Rattle.root.specs.Units.{in_units}
+use Rattle.root.proofs.Laws.Units.{four_units}
+use Rattle.root.specs.Root.{root_of}
+use Rattle.root.proofs.Laws.Root.{root_instance}
 use Rattle.root.specs.NearestRoot.{nearest_root}
-use Rattle.root.specs.NearestRootLaws.{nearest_root_lem}
-use Rattle.root.specs.FromUnits.{Decodes, decoded_exponent, decoded_units, decoded_positive}
-use Rattle.root.specs.NearestHalf.{parity}
-use Rattle.root.specs.Cut.{Cut, cut_whole, cut_scaled}
-use Rattle.root.specs.HalfRoot.{half_root, cut_nearest}
-use Rattle.root.specs.Theorems.{only_nearest}
+use Rattle.root.proofs.Laws.NearestRootLaws.{nearest_root_lem}
+use Rattle.root.specs.FromUnits.{Decodes}
+use Rattle.root.proofs.Laws.FromUnits.{decoded_exponent, decoded_units, decoded_positive}
+use Rattle.root.proofs.Laws.NearestHalf.{parity}
+use Rattle.root.specs.Cut.{Cut}
+use Rattle.root.proofs.Laws.Cut.{cut_whole, cut_scaled}
+use Rattle.root.specs.HalfRoot.{half_root}
+use Rattle.root.proofs.Laws.HalfRoot.{cut_nearest}
+use Rattle.root.proofs.Laws.Theorems.{only_nearest}
 
 -- ---- b is the pattern of m * 2 ^ e units, above 0
 

@@ -7,16 +7,20 @@ use Rattle.std.specs.Float.Ieee.{fits, is_nan}
 use Rattle.std.specs.Float.Ieee.Positive.{positive}
 use Rattle.std.specs.Float.Ieee.Scale.{finite}
 use Rattle.complex.specs.declared.Complex.{Complex}
-use Rattle.root.specs.Units.{in_units, unsigned_fits}
-use Rattle.root.specs.Root.{root_of, root_instance}
+use Rattle.root.specs.Units.{in_units}
+use Rattle.root.proofs.Laws.Units.{unsigned_fits}
+use Rattle.root.specs.Root.{root_of}
+use Rattle.root.proofs.Laws.Root.{root_instance}
 use Rattle.root.specs.Nearest.{Candidate, Nearest}
-use Rattle.root.specs.NearestLaws.{exact_nearest, overflow, overflow_only}
+use Rattle.root.proofs.Laws.NearestLaws.{exact_nearest, overflow, overflow_only}
 use Rattle.root.specs.NearestRoot.{nearest_root}
-use Rattle.root.specs.NearestRootLaws.{nearest_root_lem}
-use Rattle.root.specs.Norm.{sum_of_squares, norm_of, norm_finite}
-use Rattle.root.specs.Theorems.{only_nearest}
-use Rattle.root.specs.FromUnits.{Decodes, decoded_real}
-use Rattle.root.specs.NormMethod.{far}
+use Rattle.root.proofs.Laws.NearestRootLaws.{nearest_root_lem}
+use Rattle.root.specs.Norm.{sum_of_squares, norm_of}
+use Rattle.root.proofs.Laws.Norm.{norm_finite}
+use Rattle.root.proofs.Laws.Theorems.{only_nearest}
+use Rattle.root.specs.FromUnits.{Decodes}
+use Rattle.root.proofs.Laws.FromUnits.{decoded_real}
+use Rattle.root.proofs.Laws.NormMethod.{far}
 
 module _ (a : Complex) (re : T (finite a.re)) (im : T (finite a.im)) where
   abbrev square : ℕ

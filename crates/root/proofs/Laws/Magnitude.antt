@@ -7,10 +7,13 @@ use Rattle.std.specs.Float.{nan, inf, fin, binary64}
 use Rattle.std.specs.Float.Ieee.{fits, is_nan}
 use Rattle.std.specs.Float.Ieee.Bits.{of_bits-to_bits}
 use Rattle.complex.specs.declared.Complex.{Complex}
-use Rattle.root.specs.Units.{in_units, unsigned_fits}
-use Rattle.root.specs.Patterns.{top, without_sign, finite_magnitude, nan_above, infinite_magnitude}
+use Rattle.root.specs.Units.{in_units}
+use Rattle.root.proofs.Laws.Units.{unsigned_fits}
+use Rattle.root.specs.Patterns.{top}
+use Rattle.root.proofs.Laws.Patterns.{without_sign, finite_magnitude, nan_above, infinite_magnitude}
 use Rattle.root.specs.NearestRoot.{nearest_root}
-use Rattle.root.specs.Norm.{sum_of_squares, norm_of, infinite, infinite_part, nan_part, finite_parts}
+use Rattle.root.specs.Norm.{sum_of_squares, norm_of, infinite}
+use Rattle.root.proofs.Laws.Norm.{infinite_part, nan_part, finite_parts}
 
 either_sign : (s : Bool) (m : ℕ) (e : ℤ) → in_units (fin false m e) ≡ in_units (fin s m e)
 unfolding in_units

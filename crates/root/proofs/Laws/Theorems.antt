@@ -8,15 +8,17 @@ use Rattle.std.specs.Float.Ieee.{up, down, fits, lt, units, of_bits}
 use Rattle.std.specs.Float.Ieee.Fits.{nan-fits, inf-fits}
 use Rattle.std.specs.Float.Ieee.Positive.{positive}
 use Rattle.complex.specs.Complex.{zero_f}
-use Rattle.root.specs.Units.{in_units, units_short, four_units, positive_sign, positive_below, same_units, clear_not_negative}
-use Rattle.root.specs.PowersOfFour.{four_pow}
-use Rattle.root.specs.Whole.{side_lt}
-use Rattle.root.specs.Root.{root_of, root_instance}
+use Rattle.root.specs.Units.{in_units}
+use Rattle.root.proofs.Laws.Units.{units_short, four_units, positive_sign, positive_below, same_units, clear_not_negative}
+use Rattle.root.proofs.Laws.PowersOfFour.{four_pow}
+use Rattle.root.proofs.Laws.Whole.{side_lt}
+use Rattle.root.specs.Root.{root_of}
+use Rattle.root.proofs.Laws.Root.{root_instance}
 use Rattle.root.specs.Nearest.{Candidate, Nearest, square_of_sum}
-use Rattle.root.specs.NearestLaws.{neither, not_both, exact_nearest, nearest_grows}
-use Rattle.root.specs.NearestRootLaws.{nearest_root_lem}
-use Rattle.root.specs.FromUnits.{units_count, units_candidate}
-use Rattle.root.specs.NoTie.{short_root}
+use Rattle.root.proofs.Laws.NearestLaws.{neither, not_both, exact_nearest, nearest_grows}
+use Rattle.root.proofs.Laws.NearestRootLaws.{nearest_root_lem}
+use Rattle.root.proofs.Laws.FromUnits.{units_count, units_candidate}
+use Rattle.root.proofs.Laws.NoTie.{short_root}
 
 -- `Nearest` holds of one value, whatever the square q, ties and overflow included
 pub only_nearest : (r s : Float) (q : ℕ) → Nearest r q → Nearest s q → r ≡ s
