@@ -1,6 +1,6 @@
-use mathlib.Core.Path.{◌≡◌, refl, sym, ap, ◌∙◌}
+use mathlib.Core.Path.{◌≡◌, sym, ap, ◌∙◌}
 use Prim.Native.Nat.{ℕ, ◌-◌, ◌*◌}
-use native.Mathlib.Nat.{le_antisymm, mul-le-mul_right}
+use native.Mathlib.Nat.{le_antisymm}
 use native.Mathlib.Omega.{arith}
 use lib.ListN.{length}
 use Rattle.complex.specs.Loops.{each_none, each_more}
@@ -12,36 +12,18 @@ use Rattle.qr.proofs.factorize_gram_schmidt.Goals.{then-r-previous, else-r-previ
 pub loop-j-init : goal.loop-j-init
 loop-j-init c = (omega arith, omega arith, omega arith, rw each_none)
 
-pub overflow_mul-j : goal.overflow_mul-j
-overflow_mul-j c = let a = c.args in let e = ap (λ (k : ℕ). k * a.wide) c.smaller-cap.ensures in omega (arith, e, c.requires, c.clear_from.auto, c.loop-j.invariant.1, mul-le-mul_right a.high c.loop-j-test.true)
-
-pub l2_norm-norm-requires : goal.l2_norm-norm-requires
-l2_norm-norm-requires c = let a = c.args in let e = ap (λ (k : ℕ). k * a.wide) c.smaller-cap.ensures in omega (arith, e, c.requires, c.clear_from.auto, c.loop-j.invariant.1, mul-le-mul_right a.high c.loop-j-test.true)
-
-pub loop-previous-init : goal.loop-previous-init
-loop-previous-init c = (omega arith, omega arith, refl)
-
-pub one_pass-r-requires : goal.one_pass-r-requires
-one_pass-r-requires c = let a = c.args in let e = ap (λ (k : ℕ). k * a.wide) c.smaller-cap.ensures in omega (arith, e, c.requires, c.clear_from.auto, c.loop-j.invariant.1, mul-le-mul_right a.high c.loop-j-test.true)
-
 pub loop-previous-preserved : goal.loop-previous-preserved
 loop-previous-preserved c = (omega arith, omega arith, sym (passes_on _ _ _ _ _ _ _ _ _ c.loop-previous.invariant.1 c.one_pass-r.ensures c.if-r-previous.false) ∙ c.loop-previous.invariant.2)
-
-pub keep-rank-requires : goal.keep-rank-requires
-keep-rank-requires c = let a = c.args in let e = ap (λ (k : ℕ). k * a.wide) c.smaller-cap.ensures in omega (arith, e, c.requires, c.clear_from.auto, c.loop-j.invariant.1, mul-le-mul_right a.high c.loop-j-test.true)
 
 pub loop-j-preserved : goal.loop-j-preserved
 unfolding column_of
 loop-j-preserved c = let a = c.args in let l = c.loop-previous.invariant.1 in let p = c.one_pass-r.ensures in
     let q : passed c.if-r-previous.residual c.one_pass-r.new.w ≡ passes_of a.high a.wide c.loop-j.rank c.loop-j.j 3 c.l2_norm-norm.result c.loop-j.w =
     elim c.if-r-previous.branch [
-      then-r-previous w ↦ rw w.residual-is (sym (passes_out _ _ _ _ _ _ _ _ _ l p w.if-r-previous.true) ∙ c.loop-previous.invariant.2)
-    | else-r-previous+then-pass-eq-QR_MAX_PASSES w ↦ rw w.residual-is (sym (passes_third _ _ _ _ _ _ _ _ _ l p w.if-r-previous.false w.if-pass-eq-QR_MAX_PASSES.true) ∙ c.loop-previous.invariant.2)
+      | then-r-previous w ↦ rw w.residual-is (sym (passes_out _ _ _ _ _ _ _ _ _ l p w.if-r-previous.true) ∙ c.loop-previous.invariant.2)
+      | else-r-previous+then-pass-eq-QR_MAX_PASSES w ↦ rw w.residual-is (sym (passes_third _ _ _ _ _ _ _ _ _ l p w.if-r-previous.false w.if-pass-eq-QR_MAX_PASSES.true) ∙ c.loop-previous.invariant.2)
     ]
     in (omega arith, omega (arith, c.keep-rank.ensures.upper_bound), omega (arith, c.keep-rank.auto), rw (each_more, ← c.loop-j.invariant.3, ← c.l2_norm-norm.ensures, ← q) c.keep-rank.ensures.w_after)
-
-pub raise-requires : goal.raise-requires
-raise-requires c = omega (arith, mul-le-mul_right c.args.high c.requires.1)
 
 pub returns : goal.returns
 unfolding qr

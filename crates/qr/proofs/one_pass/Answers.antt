@@ -1,7 +1,7 @@
 use mathlib.Core.Path.{ap}
 use mathlib.Core.List.{List}
 use Prim.Native.Nat.{◌*◌}
-use native.Mathlib.Nat.{le_antisymm, mul-le-mul_right}
+use native.Mathlib.Nat.{le_antisymm}
 use native.Mathlib.Omega.{arith}
 use lib.Ieee.{Float}
 use Rattle.complex.specs.Loops.{each_none, each_more}
@@ -12,26 +12,8 @@ use Rattle.qr.proofs.one_pass.Goals as goal
 pub loop-i-init : goal.loop-i-init
 loop-i-init c = (omega arith, omega arith, rw each_none)
 
-pub project_on-requires : goal.project_on-requires
-project_on-requires c = omega (arith, mul-le-mul_right c.args.high c.requires.2)
-
-pub overflow_step-i : goal.overflow_step-i
-overflow_step-i c = omega (arith, mul-le-mul_right c.args.high c.requires.2)
-
-pub loop-i-smaller : goal.loop-i-smaller
-loop-i-smaller c = omega (arith, mul-le-mul_right c.args.high c.requires.2)
-
 pub loop-i-preserved : goal.loop-i-preserved
 loop-i-preserved c = (omega arith, omega arith, rw (each_more, c.project_on.ensures, c.loop-i.invariant.2))
-
-pub overflow_mul-j : goal.overflow_mul-j
-overflow_mul-j c = omega (arith, mul-le-mul_right c.args.high c.requires.2)
-
-pub l2_norm-requires : goal.l2_norm-requires
-l2_norm-requires c = omega (arith, mul-le-mul_right c.args.high c.requires.2)
-
-pub shape_of-w : goal.shape_of-w
-shape_of-w c = omega (arith, mul-le-mul_right c.args.high c.requires.2)
 
 pub returns : goal.returns
 unfolding pass_of

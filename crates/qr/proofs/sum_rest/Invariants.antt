@@ -1,5 +1,5 @@
 use mathlib.Core.Path.{◌≡◌}
-use Prim.Native.Nat.{◌≤◌, ◌-◌, ◌+◌}
+use Prim.Native.Nat.{◌≤◌, ◌+◌}
 use Rattle.complex.specs.Loops.{between}
 use Rattle.model.specs.Qr.{term}
 use Rattle.qr.proofs.sum_rest.Given as goal

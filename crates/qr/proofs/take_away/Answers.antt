@@ -1,7 +1,6 @@
 use native.Mathlib.Nat.{le_antisymm}
 use native.Mathlib.Omega.{arith}
 use Rattle.complex.specs.Loops.{each_none, each_more}
-use Rattle.complex.specs.Numbers.{at}
 use Rattle.model.specs.Qr.{taken_away}
 use Rattle.qr.proofs.take_away.Goals as goal
 
