@@ -7,10 +7,10 @@ use Rattle.model.specs.Slots.{State, work_room}
 use Rattle.model.specs.Sound.{share01, sound}
 use Rattle.model.specs.Calls.{short, outside, measure_refusal, env_room, env_refusal, cleared}
 use Rattle.model.specs.Statements.Soundness.{Sound}
-use Rattle.model.specs.Laws.SoundFacts.{facts_sound}
-use Rattle.model.specs.Laws.AfterStates.{not_short}
-use Rattle.model.specs.Laws.Refusals.{first_of_none, passes_sound, not_outside}
-use Rattle.model.specs.Laws.Tests.{neither}
+use Rattle.model.proofs.Laws.SoundFacts.{facts_sound}
+use Rattle.model.proofs.Laws.AfterStates.{not_short}
+use Rattle.model.proofs.Laws.Refusals.{first_of_none, passes_sound, not_outside}
+use Rattle.model.proofs.Laws.Tests.{neither}
 use Rattle.moves.specs.Ready.{Ready}
 use Rattle.environments.specs.Walk.{Walkable}
 

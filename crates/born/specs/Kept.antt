@@ -12,7 +12,7 @@ use Rattle.complex.specs.Numbers.{at, store, numbers, length_store, at_store_sam
 use Rattle.complex.specs.Parts.{part, put}
 use Rattle.complex.specs.Matrix.{rows, length_rows, at_rows, rows_same, block_none, length_blocks, block_more}
 use Rattle.complex.specs.declared.Complex.{Complex}
-use Rattle.model.specs.Laws.Tests.{below_or_past}
+use Rattle.model.proofs.Laws.Tests.{below_or_past}
 use Rattle.model.specs.Slots.{filled, amplitude}
 use Rattle.model.specs.Born.{bit_of, weight, rescale, projected_site, reset_site}
 use Rattle.columns.specs.Cleared.{rows_cleared}
@@ -121,8 +121,8 @@ row_second : (br : ℕ) (from to : Bool) (by : Complex) (xs : List Float) → le
 row_second br from true by xs len b h = at_to br from true by xs len b h ∙ sym (at_kept br from true by xs len b h 1 (omega arith))
 row_second br from false by xs len b h = at_other br from false by xs len b h ∙ sym (at_kept br from false by xs len b h 1 (omega arith))
 
-pub kept_pair : (br : ℕ) (from to : Bool) (by : Complex) (xs : List Float) → length xs ≡ 4 * br → each br (keep_step br from to by) xs ≡ kept_pair br from to by xs
-kept_pair br from to by xs len =
+pub kept_pair_lem : (br : ℕ) (from to : Bool) (by : Complex) (xs : List Float) → length xs ≡ 4 * br → each br (keep_step br from to by) xs ≡ kept_pair br from to by xs
+kept_pair_lem br from to by xs len =
     reads_first br from to by xs
     ∙ ext_at (2 * br) _ (kept_pair br from to by xs) (omega (arith, each_length br (first_step br from to by xs) xs (λ i ys l. length_step ys _ _ _))) (length_kept br from to by xs)
     (λ k h. ⊎_elim (λ (l : k < br). in_first k l) (λ (l : br ≤ k). in_second k l (omega arith)) (below_or_past k br))

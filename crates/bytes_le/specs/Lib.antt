@@ -1,3 +1,3 @@
--- What a reader must believe of numbers in bytes, with its laws.
+-- What a reader must believe of numbers in bytes.
 pub mod Value
 pub mod Patterns

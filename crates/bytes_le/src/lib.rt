@@ -9,6 +9,7 @@ ghost use Rattle.bytes_le.specs.Value.{value};
 
 // ---- whole numbers at an index, least byte first
 
+#[tactic(auto, using(crate::proofs::Value::value_one))]
 pub fn u8_at(s: &[u8], at: usize) -> u8
     requires { at + 1 ≤ length s.now }
     ensures { result ≡ value (part at (at + 1) s.now) }
@@ -46,6 +47,7 @@ pub fn u64_at(s: &[u8], at: usize) -> u64
 // ---- an f64 by its bits
 
 // The f64 of a pattern. With the sign's bit taken off, a NaN's pattern is above the infinity's.
+#[tactic(auto, using(crate::specs::Patterns::above_is_nan, crate::specs::Patterns::below_is_number))]
 pub fn from_bits(bits: u64) -> f64
     ensures { result ≡ of_bits binary64 bits }
 {
@@ -57,6 +59,7 @@ pub fn from_bits(bits: u64) -> f64
 }
 
 // The pattern of an f64, 7FF8000000000000 for a NaN.
+#[tactic(auto, using(crate::specs::Patterns::nan_pattern, crate::specs::Patterns::same_is_number))]
 pub fn to_bits(x: f64) -> u64
     ensures { result ≡ to_bits binary64 x }
 {

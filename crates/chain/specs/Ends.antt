@@ -19,7 +19,7 @@ use Rattle.model.specs.Environment.{Env}
 use Rattle.model.specs.Sound.{settings_fit}
 use Rattle.model.specs.Start.{fresh_chain, fresh_store, zero_chain}
 use Rattle.model.specs.Calls.{After, after, Started, started, start_call, gate_refusal, gate_call, named_gate_call, project_refusal, project_call, measure_refusal, measure_call, reset_refusal, reset_call, walked, env_refusal, env_after}
-use Rattle.model.specs.Laws.SoundFacts.{settings_facts}
+use Rattle.model.proofs.Laws.SoundFacts.{settings_facts}
 
 -- ---- a refused call
 

@@ -18,10 +18,10 @@ use Rattle.model.specs.Pair.{pair_svd, left_site, right_site}
 use Rattle.model.specs.Moves.{Prepared, prepared, prepared_on, established}
 use Rattle.model.specs.Cut.{known, can_lose, keeps_centre, prepared_for, pair_of, rank_of, reason_in, Tried, tried, weight_site, cut_stored, cut_with, attempt, adjacent, attempt_reason, adjacent_reason}
 use Rattle.model.specs.Statements.Soundness.{Sound}
-use Rattle.model.specs.Laws.MoveLaws.{established_narrowed, established_centre}
-use Rattle.model.specs.Laws.SoundKept.{Keeps, narrowed_keeps, prepared_narrowed, adjacent_keeps}
-use Rattle.model.specs.Laws.CutEnds.{established_prepared, second_not_6}
-use Rattle.model.specs.Laws.Tests.{either_way}
+use Rattle.model.proofs.Laws.MoveLaws.{established_narrowed, established_centre}
+use Rattle.model.proofs.Laws.SoundKept.{Keeps, narrowed_keeps, prepared_narrowed, adjacent_keeps}
+use Rattle.model.proofs.Laws.CutEnds.{established_prepared, second_not_6}
+use Rattle.model.proofs.Laws.Tests.{either_way}
 use Rattle.truncation.specs.Shares.{shares_of}
 use Rattle.pair.specs.declared.Bonds.{Bonds}
 use Rattle.cutting.specs.declared.Decomposed.{Decomposed}

@@ -7,7 +7,7 @@ use Rattle.model.specs.Chain.{bond_left, bond_right}
 use Rattle.model.specs.Slots.{held, site_at, slot_room, store_room, work_room}
 use Rattle.model.specs.Environment.{Env, identity_env, left_across, right_across, left_step, right_step, left_env, right_env}
 use Rattle.model.specs.Sound.{sound}
-use Rattle.model.specs.Laws.SoundFacts.{sound_facts}
+use Rattle.model.proofs.Laws.SoundFacts.{sound_facts}
 use Rattle.walks.specs.Products.{env_of}
 use Rattle.walks.specs.Steps.{left_env_lem, right_env_lem}
 

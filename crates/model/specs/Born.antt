@@ -1,7 +1,6 @@
 -- The weights of the two outcomes at the centre (Schollwöck 2011, 4.1.3: in mixed-canonical form the centre's own amplitudes give them), the draw, projection and reset
 -- (born_weights, draw_outcome, project_site_outcome, collapse_site_to_zero).
-use Rattle.std.specs.Prelude.{ℕ, ◌+◌, ◌*◌, Bool, true, false, cond, List, eqb, Float}
-use Rattle.std.specs.Bool.{beq}
+use Rattle.std.specs.Prelude.{ℕ, Bool, true, false, cond, List, eqb, Float}
 use Rattle.std.specs.Float.{binary64}
 use Rattle.std.specs.Float.Ieee.{add, mul, div, lt, le}
 use Rattle.complex.specs.Complex.{mul_c, norm_sqr, real, zero_c, zero_f, one_f}

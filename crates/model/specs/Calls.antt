@@ -1,5 +1,5 @@
 -- The public calls, on all inputs: each is its refusals in their order around a run, with everything that it leaves.
-use Rattle.std.specs.Prelude.{ℕ, zero, suc, ◌+◌, ◌*◌, Bool, true, false, not, ◌&&◌, ◌||◌, cond, List, ◌++◌, leb, ltb, eqb, length, drop, replicate, set, Float}
+use Rattle.std.specs.Prelude.{ℕ, zero, suc, ◌*◌, Bool, false, not, ◌||◌, cond, List, ◌++◌, leb, ltb, eqb, length, drop, replicate, set, Float}
 use Rattle.std.specs.Float.{binary64}
 use Rattle.std.specs.Float.Ieee.{div, le}
 use Rattle.complex.specs.Complex.{zero_f}

@@ -1,7 +1,7 @@
 -- The environments of a site (Schollwöck 2011, 4.2.1): the contraction of the sites on one side with their conjugates. Each walk is a fold of one step.
 -- Factor order, the two forms either side of bond product 4, and the skipped zeros are those of compute_left_env, contract_left_env, compute_right_env and contract_right_env.
-use Rattle.std.specs.Prelude.{ℕ, zero, suc, ◌+◌, ◌-◌, ◌*◌, Bool, cond, List, leb, eqb, Float}
-use Rattle.complex.specs.Complex.{add_c, mul_c, conj_c, is_zero, real, zero_c, zero_f, one_f}
+use Rattle.std.specs.Prelude.{ℕ, ◌+◌, ◌-◌, ◌*◌, Bool, cond, List, leb, eqb, Float}
+use Rattle.complex.specs.Complex.{add_c, mul_c, conj_c, is_zero, real, zero_c, one_f}
 use Rattle.complex.specs.Loops.{each, between, sum_c}
 use Rattle.complex.specs.Numbers.{at, numbers}
 use Rattle.complex.specs.Matrix.{rows}

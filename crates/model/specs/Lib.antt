@@ -19,6 +19,5 @@ pub mod Calls
 pub mod Phases
 pub mod Lists
 pub mod Machine
--- What is proved of them, and the proofs.
+-- What is proved of them.
 pub mod Statements
-pub mod Laws

@@ -1,5 +1,5 @@
 -- Moves of the orthogonality centre by QR steps (Schollwöck 2011, 4.4; shift_center_right, shift_center_left, move_center, establish_center, prepare_center).
-use Rattle.std.specs.Prelude.{ℕ, zero, suc, ◌+◌, ◌-◌, ◌*◌, Bool, cond, List, leb, Float}
+use Rattle.std.specs.Prelude.{ℕ, zero, suc, ◌+◌, ◌-◌, ◌*◌, cond, List, leb, Float}
 use Rattle.complex.specs.Complex.{mul_c, conj_c, zero_c}
 use Rattle.complex.specs.Loops.{sum_c}
 use Rattle.complex.specs.Numbers.{at, numbers}

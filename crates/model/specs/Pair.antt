@@ -1,7 +1,7 @@
 -- Two neighbouring sites as one: their contraction, the gate on it, its matrix, and the two sites made of its factors.
 -- (Vidal 2003, Lemma 2; Schollwöck 2011, 4.1.3 and 4.5.1.) A site of bonds bl and br is a matrix of 2 bl rows, row 2 a + i for left index a and bit i.
-use Rattle.std.specs.Prelude.{ℕ, ◌+◌, ◌*◌, Bool, cond, List, Float}
-use Rattle.complex.specs.Complex.{mul_c, add_c, conj_c, scale_c, real, zero_c}
+use Rattle.std.specs.Prelude.{ℕ, ◌+◌, ◌*◌, List, Float}
+use Rattle.complex.specs.Complex.{mul_c, conj_c, scale_c, real, zero_c}
 use Rattle.complex.specs.Loops.{each, sum_c}
 use Rattle.complex.specs.Numbers.{numbers}
 use Rattle.complex.specs.Matrix.{rows}

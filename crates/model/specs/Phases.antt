@@ -1,5 +1,5 @@
 -- The four phases 1, -1, i and -i, as a group, as complex numbers, and read off one.
-use Rattle.std.specs.Prelude.{Bool, true, false, not, ◌&&◌, ◌||◌, cond, Float}
+use Rattle.std.specs.Prelude.{Bool, true, false, ◌&&◌, ◌||◌, cond, Float}
 use Rattle.std.specs.Float.Ieee.{neg, eq, lt, unlike}
 use Rattle.complex.specs.Complex.{zero_f, one_f}
 use Rattle.complex.specs.declared.Complex.{Complex}

@@ -1,7 +1,7 @@
 -- The thin QR factoring of a gauge move, by modified Gram-Schmidt (Golub and Van Loan, 5.2.8) with up to two passes more, each operation rounded in the
 -- order of ThinQr::factorize_gram_schmidt. It works in place: the list holds, in numbers, a matrix of `high` rows and `wide` columns, by columns, from 0 on, whose
 -- first `rank` columns become q; and r, of min(high, wide) rows and `wide` columns, by rows, from wide * high on.
-use Rattle.std.specs.Prelude.{ℕ, zero, suc, ◌+◌, ◌*◌, ◌/◌, min, Bool, cond, ◌&&◌, List, ◌++◌, replicate, ltb, eqb, Float}
+use Rattle.std.specs.Prelude.{ℕ, zero, suc, ◌+◌, ◌*◌, ◌/◌, min, cond, ◌&&◌, List, ◌++◌, replicate, ltb, eqb, Float}
 use Rattle.std.specs.Float.{binary64}
 use Rattle.std.specs.Float.Ieee.{mul, div, lt, of_bits}
 use Rattle.complex.specs.Complex.{add_c, sub_c, mul_c, conj_c, real, zero_c, zero_f, one_f}

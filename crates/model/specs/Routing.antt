@@ -1,6 +1,6 @@
 -- A gate on any two qubits: swaps of neighbours bring the far one beside the near one, then the gate acts there (apply_two_qubit_gate, swap_layout_labels).
 -- The route is data; the call folds one step over it.
-use Rattle.std.specs.Prelude.{ℕ, zero, suc, ◌+◌, ◌-◌, min, max, Bool, true, false, cond, List, [], ◌∷◌, ◌++◌, map, ltb, eqb, get_or, set}
+use Rattle.std.specs.Prelude.{ℕ, zero, suc, ◌+◌, ◌-◌, min, max, Bool, true, false, cond, List, [], ◌∷◌, ◌++◌, map, ltb, eqb, set}
 use Rattle.complex.specs.declared.Complex.{Complex}
 use Rattle.gates.specs.Gate.{swap_gate_qubits}
 use Rattle.gates.specs.Named.{matrix_of}

@@ -1,5 +1,5 @@
 -- What a sound chain record is: document 01's sentence, as a computed test.
-use Rattle.std.specs.Prelude.{ℕ, ◌+◌, ◌-◌, Bool, true, false, ◌&&◌, ◌||◌, List, leb, ltb, eqb, length, get_or, Float}
+use Rattle.std.specs.Prelude.{ℕ, ◌+◌, ◌-◌, Bool, true, ◌&&◌, ◌||◌, List, leb, ltb, eqb, length, get_or, Float}
 use Rattle.std.specs.Float.{nan, binary64}
 use Rattle.std.specs.Float.Ieee.{le, lt, to_bits}
 use Rattle.complex.specs.Complex.{zero_f, one_f}

@@ -1,5 +1,5 @@
 -- The record and the store of a fresh chain (init of MpsBackend): every qubit 0, every bond 1, no centre; and the all-zero record that a refused start hands back.
-use Rattle.std.specs.Prelude.{ℕ, Bool, false, cond, List, [], ◌∷◌, ◌++◌, ltb, drop, replicate, Float}
+use Rattle.std.specs.Prelude.{ℕ, false, cond, List, [], ◌∷◌, ◌++◌, ltb, drop, replicate, Float}
 use Rattle.complex.specs.Complex.{zero_f, one_f}
 use Rattle.complex.specs.Loops.{tabulate}
 use Rattle.complex.specs.Matrix.{rows}

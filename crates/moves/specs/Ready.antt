@@ -7,7 +7,7 @@ use Rattle.model.specs.Slots.{State, held, slot_of, slot_room, store_room, work_
 use Rattle.model.specs.Moves.{step_right, step_left, walk_right, moved}
 use Rattle.model.specs.Statements.Soundness.{Sound}
 use Rattle.moves.specs.Steps.{Pair, factors_right, factors_left, stored_right, stored_left}
-use Rattle.model.specs.Laws.MoveLaws.{Narrowed, narrowed_qubits, narrowed_cap, Apart, step_right_narrowed, step_right_apart, step_left_narrowed, step_left_apart, walk_right_narrowed, walk_right_apart, moved_narrowed, moved_apart}
+use Rattle.model.proofs.Laws.MoveLaws.{Narrowed, narrowed_qubits, narrowed_cap, Apart, step_right_narrowed, step_right_apart, step_left_narrowed, step_left_apart, walk_right_narrowed, walk_right_apart, moved_narrowed, moved_apart}
 
 -- a sound record, with a store of its size and room to work
 pub record Ready (c : Chain) (store work : List Float) : Type 0 where

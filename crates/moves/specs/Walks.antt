@@ -9,7 +9,7 @@ use Rattle.model.specs.declared.Center.TheVariants.{Unknown, At}
 use Rattle.model.specs.declared.WeightSide.TheVariants.{Left, Right}
 use Rattle.model.specs.Slots.{State}
 use Rattle.model.specs.Moves.{step_right, step_left, walk_right, walk_left, centered, moved, established, centered_on, prepared, prepared_on}
-use Rattle.model.specs.Laws.MoveLaws.{moved_still}
+use Rattle.model.proofs.Laws.MoveLaws.{moved_still}
 
 module _ (to at : ℕ) (s : State) where
   pub right_turn : at < to → walk_right (to - at) at s ≡ walk_right (to - (at + 1)) (at + 1) (step_right at s)

@@ -9,7 +9,7 @@ use Rattle.model.specs.Slots.{State, held, slot_room, slot_of, store_room}
 use Rattle.model.specs.Moves.{moved, established}
 use Rattle.model.specs.Born.{readied}
 use Rattle.model.specs.Statements.Soundness.{Sound}
-use Rattle.model.specs.Laws.MoveLaws.{Narrowed, narrowed_qubits, narrowed_cap, Apart, moved_narrowed, moved_apart, established_narrowed, established_apart, readied_by}
+use Rattle.model.proofs.Laws.MoveLaws.{Narrowed, narrowed_qubits, narrowed_cap, Apart, moved_narrowed, moved_apart, established_narrowed, established_apart, readied_by}
 use Rattle.moves.specs.Ready.{Ready}
 
 pub record Placed (k : ℕ) (s : State) : Type 0 where

@@ -34,6 +34,7 @@ fn add_product(acc: Complex, x: Complex, y: Complex) -> Complex
 }
 
 // One more term of the four sums.
+#[tactic(auto, unfolding(crate::specs::Blocks::grown))]
 fn grow(t: Block, x0: Complex, x1: Complex, y0: Complex, y1: Complex) -> Block
     ensures { result ≡ grown t x0 x1 y0 y1 }
 {
@@ -77,6 +78,7 @@ fn dots(
 }
 
 // A row of the gate times the four elements, added in their order.
+#[tactic(auto, unfolding(crate::specs::Blocks::mix_of))]
 fn mix(row: [Complex; 4], t: Block) -> Complex
     ensures { result ≡ mix_of row t }
 {
@@ -86,6 +88,7 @@ fn mix(row: [Complex; 4], t: Block) -> Complex
 }
 
 // The gate on the four elements.
+#[tactic(auto, unfolding(crate::specs::Blocks::mixed_of))]
 fn gate_block(gate: [[Complex; 4]; 4], t: Block) -> Block
     ensures { result ≡ mixed_of gate t }
 {
@@ -97,6 +100,7 @@ fn gate_block(gate: [[Complex; 4]; 4], t: Block) -> Block
     }
 }
 
+#[tactic(auto, unfolding(crate::specs::Blocks::conjugated))]
 fn conj_block(t: Block) -> Block
     ensures { result ≡ conjugated t }
 {
@@ -129,6 +133,7 @@ fn contract_block(
 }
 
 // The four elements at their places: i steps by si from base on, and j by sj.
+#[tactic(auto, unfolding(crate::specs::Blocks::stored))]
 fn store_block(out: &mut [f64], base: usize, si: usize, sj: usize, t: Block)
     requires { base + si + sj < count out.old }
     ensures { out.new ≡ stored base si sj t out.old }

@@ -40,6 +40,7 @@ pub struct Read {
 // ---- lengths
 
 // How many bytes a record's body has, by its kind; 0 for what is no kind.
+#[tactic(auto, using(crate::specs::Layout::no_layout), unfolding(crate::specs::Layout::body_size))]
 pub fn body_size(kind: u16) -> usize
     ensures { result ≡ body_size kind }
 {
@@ -55,6 +56,7 @@ pub fn body_size(kind: u16) -> usize
 }
 
 // Whether some kind has records of this length, kind and body counted.
+#[tactic(auto, unfolding(crate::specs::Layout::body_size, crate::specs::Layout::has_length))]
 fn has_length(size: usize) -> bool
     ensures { result ≡ has_length size }
 {
@@ -62,6 +64,7 @@ fn has_length(size: usize) -> bool
 }
 
 // How many bytes follow the two of the length; 0 if no record has that length.
+#[tactic(auto, using(bytes_le::proofs::Value::value_two), unfolding(crate::specs::Layout::more_bytes))]
 pub fn more_bytes(low: u8, high: u8) -> usize
     ensures { result ≡ more_bytes (value (low ∷ high ∷ [])) }
 {
@@ -90,6 +93,7 @@ fn blank(kind: u16) -> Fields
     }
 }
 
+#[tactic(auto, unfolding(bytes_le::specs::Value::value, crate::specs::Layout::field_bytes, crate::specs::Fields::fields_of))]
 fn start_fields(bytes: &[u8]) -> Fields
     requires { 23 ≤ length bytes.now }
     ensures { result ≡ fields_of 1 bytes.now }
@@ -105,6 +109,7 @@ fn start_fields(bytes: &[u8]) -> Fields
     }
 }
 
+#[tactic(auto, unfolding(bytes_le::specs::Value::value, crate::specs::Layout::field_bytes, crate::specs::Fields::fields_of))]
 fn gate_fields(bytes: &[u8]) -> Fields
     requires { 262 ≤ length bytes.now }
     ensures { result ≡ fields_of 2 bytes.now }
@@ -117,6 +122,7 @@ fn gate_fields(bytes: &[u8]) -> Fields
     }
 }
 
+#[tactic(auto, unfolding(bytes_le::specs::Value::value, crate::specs::Layout::field_bytes, crate::specs::Fields::fields_of))]
 fn named_gate_fields(bytes: &[u8]) -> Fields
     requires { 7 ≤ length bytes.now }
     ensures { result ≡ fields_of 3 bytes.now }
@@ -130,6 +136,7 @@ fn named_gate_fields(bytes: &[u8]) -> Fields
     }
 }
 
+#[tactic(auto, unfolding(bytes_le::specs::Value::value, crate::specs::Layout::field_bytes, crate::specs::Fields::fields_of))]
 fn projection_fields(bytes: &[u8]) -> Fields
     requires { 6 ≤ length bytes.now }
     ensures { result ≡ fields_of 4 bytes.now }
@@ -142,6 +149,7 @@ fn projection_fields(bytes: &[u8]) -> Fields
     }
 }
 
+#[tactic(auto, unfolding(bytes_le::specs::Value::value, crate::specs::Layout::field_bytes, crate::specs::Fields::fields_of))]
 fn measure_fields(bytes: &[u8]) -> Fields
     requires { 14 ≤ length bytes.now }
     ensures { result ≡ fields_of 5 bytes.now }
@@ -155,6 +163,7 @@ fn measure_fields(bytes: &[u8]) -> Fields
     }
 }
 
+#[tactic(auto, unfolding(bytes_le::specs::Value::value, crate::specs::Layout::field_bytes, crate::specs::Fields::fields_of))]
 fn reset_fields(bytes: &[u8]) -> Fields
     requires { 13 ≤ length bytes.now }
     ensures { result ≡ fields_of 6 bytes.now }
@@ -168,6 +177,7 @@ fn reset_fields(bytes: &[u8]) -> Fields
 }
 
 // The fields of a record of this kind that begins the bytes.
+#[tactic(auto, using(crate::specs::Fields::no_fields), unfolding(crate::specs::Layout::body_size))]
 fn fields_of(bytes: &[u8], kind: u16) -> Fields
     requires { 4 + body_size kind ≤ length bytes.now }
     ensures { result ≡ fields_of kind bytes.now }
@@ -184,6 +194,7 @@ fn fields_of(bytes: &[u8], kind: u16) -> Fields
 }
 
 // Whether a record may have these fields: its kind is known, a named gate's code is at most 2, a projection's bit at most 1.
+#[tactic(auto, unfolding(crate::specs::Fields::valid))]
 pub fn is_valid(fields: Fields) -> bool
     ensures { result ≡ valid fields }
 {
@@ -206,6 +217,7 @@ fn turned_away() -> Read
 }
 
 // The record that begins the bytes. They may go on past it.
+#[tactic(auto, using(crate::specs::Layout::body_size_small, crate::specs::Reading::short, crate::specs::Reading::wrong_length, crate::specs::Reading::cut_off, crate::specs::Reading::bad_fields, crate::specs::Reading::taken))]
 pub fn read_record(bytes: &[u8]) -> Read
     ensures { result ≡ read_of bytes.now }
 {
@@ -271,6 +283,7 @@ fn gate_from(bytes: &[u8]) -> [[Complex; 4]; 4]
 }
 
 // The gate of the gate record that begins the bytes; all +0 where they are too few for one.
+#[tactic(auto, using(crate::specs::GateBytes::gate_short, crate::specs::GateBytes::gate_there), unfolding(gates::specs::Gate::gate_of))]
 pub fn read_gate(bytes: &[u8]) -> [[Complex; 4]; 4]
     ensures { result ≡ gate_read bytes.now }
 {

@@ -4,7 +4,7 @@ use Rattle.std.proofs.Common.{mul-le-mul, arith}
 use Rattle.std.proofs.lemmas.Bool.{not-false}
 use Rattle.model.specs.declared.Chain.{Chain}
 use Rattle.model.specs.Sound.{settings_fit, sound}
-use Rattle.model.specs.Laws.SoundFacts.{settings_facts, sound_facts}
+use Rattle.model.proofs.Laws.SoundFacts.{settings_facts, sound_facts}
 
 -- at most 64 qubits under a cap of at most 128
 abbrev pub Ranges : ℕ → ℕ → Type 0

@@ -7,7 +7,7 @@ use Rattle.model.specs.Slots.{held}
 use Rattle.model.specs.Cut.{Ran, ran}
 use Rattle.model.specs.Routing.{down_to, swap_step, stepped}
 use Rattle.model.specs.Statements.Soundness.{Sound}
-use Rattle.model.specs.Laws.SoundKept.{Keeps, Inside, stepped_keeps, run_steps_keeps}
+use Rattle.model.proofs.Laws.SoundKept.{Keeps, Inside, stepped_keeps, run_steps_keeps}
 use Rattle.routing.specs.Runs.{swaps_down}
 
 pub step_keeps : (c r : Chain) (store out : List Float) → Sound c → (k : ℕ) → k + 1 < c.num_qubits → (n : ℕ) → ran n (held r out) ≡ stepped (swap_step k) (held c store) → Keeps c r

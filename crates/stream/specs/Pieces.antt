@@ -9,7 +9,8 @@ use Rattle.std.proofs.lemmas.Bool.{lt-leb, eqb-false}
 use Rattle.std.proofs.Math.ListN.{length-set}
 use Rattle.std.proofs.lemmas.List.Edits.{sets, sets-eq}
 use Rattle.std.proofs.Math.Seq.{length-sets}
-use Rattle.record.specs.Frames.{record_size, frames, whole, size_two, size_small, not_whole, frames_cut, frames_record, whole_now, cut_off}
+use Rattle.record.specs.Frames.{record_size, frames, whole}
+use Rattle.record.proofs.Frames.{size_two, size_small, not_whole, frames_cut, frames_record, whole_now, cut_off}
 use Rattle.lines.specs.declared.Line.{Line}
 use Rattle.lines.specs.Text.{line_text, line_room, written, written_length}
 use Rattle.lines.specs.Writing.{length_line}

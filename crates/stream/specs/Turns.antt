@@ -11,7 +11,8 @@ use Rattle.std.proofs.Math.Seq.{length-sets, drop-drop}
 use Rattle.complex.specs.Parts.{part, put, put_end}
 use Rattle.bytes_le.specs.Value.{value}
 use Rattle.record.specs.Layout.{more_bytes}
-use Rattle.record.specs.Frames.{record_size, whole, size_two}
+use Rattle.record.specs.Frames.{record_size, whole}
+use Rattle.record.proofs.Frames.{size_two}
 use Rattle.lines.specs.declared.Line.{Line}
 use Rattle.lines.specs.Text.{line_text, line_room, written, written_length}
 use Rattle.lines.specs.Writing.{length_line}

@@ -5,7 +5,7 @@ use Rattle.std.specs.Float.{nan, binary64}
 use Rattle.std.specs.Float.Ieee.{mul, lt}
 use Rattle.complex.specs.Complex.{zero_f}
 use Rattle.model.specs.Truncation.{leading, rank}
-use Rattle.model.specs.Laws.Reasons.{leading_within}
+use Rattle.model.proofs.Laws.Reasons.{leading_within}
 
 -- ---- from place k on: the value there leads or not, or there is none
 

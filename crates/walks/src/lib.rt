@@ -62,6 +62,7 @@ fn plus_unless_zero(e: Complex, x: Complex, acc: Complex) -> Complex
 }
 
 // The term of the bit i of the entry e of a left environment at (a, a1), added to acc.
+#[tactic(auto, unfolding(crate::specs::Products::term_left))]
 fn left_term(
     site: &[f64],
     br: usize,
@@ -217,6 +218,7 @@ pub fn left_across(site: &[f64], work: &mut [f64], bl: usize, br: usize)
 // ---- a right environment across a site
 
 // The term of the bit i of the entry e of a right environment at (b, b1), added to acc.
+#[tactic(auto, unfolding(crate::specs::Products::term_right))]
 fn right_term(
     site: &[f64],
     br: usize,

@@ -4,7 +4,7 @@ use native.Mathlib.Omega.{arith}
 use borrow.Author.Tests.{eq-eqb}
 use lib.Seq.{length-take-le}
 use Rattle.model.specs.Slots.{held}
-use Rattle.model.specs.Laws.SoundKept.{AcceptedGate, gate_accepted}
+use Rattle.model.proofs.Laws.SoundKept.{AcceptedGate, gate_accepted}
 use Rattle.accepted.specs.Accepted.{Lent, lent}
 use Rattle.accepted.specs.Ends.{gate_ends}
 use borrow.Author.Rules.{rules}

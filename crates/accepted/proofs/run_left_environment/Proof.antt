@@ -6,7 +6,7 @@ use lib.Seq.{length-take-le}
 use Rattle.model.specs.Slots.{held}
 use Rattle.model.specs.Environment.{left_env}
 use Rattle.model.specs.Calls.{left_environment_call}
-use Rattle.model.specs.Laws.EnvironmentLaws.{left_env_squared}
+use Rattle.model.proofs.Laws.EnvironmentLaws.{left_env_squared}
 use Rattle.accepted.specs.Accepted.{AcceptedWalk, walk_accepted, Lent, lent, entries_fit, written_entries}
 use Rattle.accepted.specs.Ends.{walk_ends}
 use borrow.Author.Rules.{rules}

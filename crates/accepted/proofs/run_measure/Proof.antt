@@ -4,7 +4,7 @@ use native.Mathlib.Omega.{arith}
 use borrow.Author.Tests.{eq-eqb}
 use lib.Seq.{length-take-le}
 use Rattle.model.specs.Slots.{held}
-use Rattle.model.specs.Laws.Refusals.{AcceptedReading, measure_passes}
+use Rattle.model.proofs.Laws.Refusals.{AcceptedReading, measure_passes}
 use Rattle.accepted.specs.Accepted.{Lent, lent, flag_below}
 use Rattle.accepted.specs.Ends.{measure_ends}
 use borrow.Author.Rules.{rules}

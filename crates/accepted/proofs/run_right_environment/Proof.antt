@@ -6,7 +6,7 @@ use lib.Seq.{length-take-le}
 use Rattle.model.specs.Slots.{held}
 use Rattle.model.specs.Environment.{right_env}
 use Rattle.model.specs.Calls.{right_environment_call}
-use Rattle.model.specs.Laws.EnvironmentLaws.{right_env_squared}
+use Rattle.model.proofs.Laws.EnvironmentLaws.{right_env_squared}
 use Rattle.accepted.specs.Accepted.{AcceptedWalk, walk_accepted, Lent, lent, entries_fit, written_entries}
 use Rattle.accepted.specs.Ends.{walk_ends}
 use borrow.Author.Rules.{rules}

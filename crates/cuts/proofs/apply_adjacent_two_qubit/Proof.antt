@@ -2,7 +2,7 @@ use mathlib.Core.Path.{refl, sym, ◌∙◌}
 use native.Mathlib.Omega.{arith}
 use borrow.Author.Tests.{not-true, not-false}
 use Rattle.model.specs.Slots.{held}
-use Rattle.model.specs.Laws.SoundKept.{keeps_none}
+use Rattle.model.proofs.Laws.SoundKept.{keeps_none}
 use Rattle.cuts.specs.Pair.{pair_of}
 use Rattle.cuts.specs.Attempts.{ready_keeps, established_keeps, keeps_centre_lem, adjacent_above, centered_once, bare_once, twice}
 use Rattle.cuts.proofs.apply_adjacent_two_qubit.Statement.{statement}

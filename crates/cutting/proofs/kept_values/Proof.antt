@@ -9,7 +9,7 @@ use lib.Seq.{length-take-le, take_at}
 use Rattle.complex.specs.Complex.{zero_f}
 use Rattle.complex.specs.Loops.{length_tabulate}
 use Rattle.model.specs.Svd.{values, value_at}
-use Rattle.model.specs.Laws.SoundChanges.{cut_rank_least, cut_rank_most}
+use Rattle.model.proofs.Laws.SoundChanges.{cut_rank_least, cut_rank_most}
 use Rattle.truncation.specs.Rank.{rank_within}
 use Rattle.cutting.specs.Shape.{room, standing}
 use Rattle.cutting.specs.Kept.{KeptOf}

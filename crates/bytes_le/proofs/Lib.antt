@@ -1,0 +1,2 @@
+-- Lemmas that other crates' proofs cite too.
+pub mod Value

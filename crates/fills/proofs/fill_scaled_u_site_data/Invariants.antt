@@ -1,0 +1,13 @@
+-- The invariant: the first r rows stand in the slot, and the rest is as it was.
+use mathlib.Core.Path.{◌≡◌}
+use mathlib.Core.List.{◌++◌}
+use Prim.Native.Nat.{◌≤◌, ◌*◌}
+use lib.ListN.{length, drop}
+use Rattle.complex.specs.Complex.{scale_c}
+use Rattle.fills.specs.Factors.{column_of, value_of}
+use Rattle.complex.specs.Numbers.{numbers}
+use Rattle.complex.specs.Matrix.{rows}
+use Rattle.fills.proofs.fill_scaled_u_site_data.Given as goal
+
+abbrev pub invariant-loop-r : goal.invariant-loop-r
+invariant-loop-r l = (l.r ≤ l.high) × (length l.slot ≡ length l.initial.slot) × (l.slot ≡ rows l.r (λ r. numbers l.chi (λ g. scale_c (column_of l.w l.order l.f r g) (value_of l.w l.order l.vals g))) ++ drop (l.r * l.size) l.initial.slot)

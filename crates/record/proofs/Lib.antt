@@ -1,0 +1,2 @@
+-- Lemmas that other crates cite too.
+pub mod Frames

@@ -1,0 +1,11 @@
+-- The invariant: acc has the first k entries' terms.
+use mathlib.Core.Path.{◌≡◌}
+use Prim.Native.Nat.{◌≤◌, ◌/◌, ◌%◌}
+use Rattle.complex.specs.Complex.{zero_c}
+use Rattle.complex.specs.Loops.{each}
+use Rattle.complex.specs.Numbers.{at}
+use Rattle.walks.specs.Products.{cell_left}
+use Rattle.walks.proofs.left_few.Given as goal
+
+abbrev pub invariant-loop-k : goal.invariant-loop-k
+invariant-loop-k l = (l.k ≤ l.n) × (l.acc ≡ each l.k (λ k. cell_left l.br l.site (k / l.bl) (k % l.bl) l.g l.g1 (at l.env k)) zero_c)

@@ -1,0 +1,11 @@
+-- The invariant: acc has the first a terms.
+use mathlib.Core.Path.{◌≡◌}
+use Prim.Native.Nat.{◌≤◌, ◌+◌, ◌*◌}
+use Rattle.complex.specs.Complex.{zero_c}
+use Rattle.complex.specs.Loops.{each}
+use Rattle.complex.specs.Numbers.{at}
+use Rattle.walks.specs.Products.{plus_unless_zero}
+use Rattle.walks.proofs.left_inner.Given as goal
+
+abbrev pub invariant-loop-a : goal.invariant-loop-a
+invariant-loop-a l = (l.a ≤ l.bl) × (l.acc ≡ each l.a (λ a. plus_unless_zero (at l.env (a * l.bl + l.a1)) (at l.site (a * (2 * l.br) + l.c))) zero_c)

@@ -1,0 +1,13 @@
+-- By the test of the entry.
+use mathlib.Core.Path.{sym, ◌∙◌}
+use Rattle.complex.specs.Loops.{each}
+use Rattle.walks.specs.Products.{cell_right}
+use Rattle.walks.proofs.right_cell.Goals as goal
+
+pub returns-then-is_zero : goal.returns-then-is_zero
+unfolding cell_right
+returns-then-is_zero c = rw (sym c.is_zero.ensures ∙ c.if-is_zero.true)
+
+pub returns-else-is_zero : goal.returns-else-is_zero
+unfolding cell_right each
+returns-else-is_zero c = rw (sym c.is_zero.ensures ∙ c.if-is_zero.false, c.right_term.ensures, c.right_term-z.ensures)
