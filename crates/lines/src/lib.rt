@@ -24,6 +24,7 @@ pub struct Line {
 }
 
 // x in decimal from the index `at` on. The index behind it is returned, here and below.
+#[tactic(auto, using(crate::specs::Writing::put_one, crate::specs::Writing::put_two, crate::specs::Writing::put_three))]
 fn put_decimal(out: &mut [u8], at: usize, x: u8) -> usize
     requires { at + 3 ≤ length out.old }
     ensures out_after { out.new ≡ sets out.old at (decimal x) }
@@ -44,6 +45,7 @@ fn put_decimal(out: &mut [u8], at: usize, x: u8) -> usize
     at + 3
 }
 
+#[tactic(auto, using(crate::specs::Writing::hex_low, crate::specs::Writing::hex_high))]
 fn hex_digit(x: u64) -> u8
     requires { x < 16 }
     ensures { result ≡ hex_digit x }
@@ -65,6 +67,7 @@ fn put_hex(out: &mut [u8], at: usize, x: u64) -> usize
     at + 16
 }
 
+#[tactic(auto, unfolding(crate::specs::Text::bit_digit))]
 fn bit_digit(bit: bool) -> u8
     ensures { result ≡ bit_digit bit }
 {

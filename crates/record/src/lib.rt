@@ -149,7 +149,6 @@ fn projection_fields(bytes: &[u8]) -> Fields
     }
 }
 
-#[tactic(auto, unfolding(bytes_le::specs::Value::value, crate::specs::Layout::field_bytes, crate::specs::Fields::fields_of))]
 fn measure_fields(bytes: &[u8]) -> Fields
     requires { 14 ≤ length bytes.now }
     ensures { result ≡ fields_of 5 bytes.now }
