@@ -10,26 +10,14 @@ use Rattle.model.specs.Svd.{ordered, values_at, factored}
 use Rattle.model.specs.Pair.{gated_theta, pair_svd}
 use Rattle.svd.specs.Order.{order_below}
 use Rattle.cutting.specs.Shape.{room, matrix_for, standing_ordered, shape_wide, shape_matrix, shape_small, shape_stands, pair_shape}
-use Rattle.cutting.proofs.Lent.{size, matrix_fits, matrix_length, still_long, whole, front}
+use Rattle.cutting.proofs.Lent.{size, matrix_length, still_long, whole, front}
 use Rattle.cutting.proofs.decompose.Goals as goal
-
-pub overflow_mul-m : goal.overflow_mul-m
-overflow_mul-m c = let z = shape_small _ _ _ c.shape_of-s.ensures c.requires.le_left.1 c.requires.le_left.4 in omega (arith, mul-le-mul z.1 z.0)
-
-pub overflow_mul-m-2 : goal.overflow_mul-m-2
-overflow_mul-m-2 c = let z = shape_small _ _ _ c.shape_of-s.ensures c.requires.le_left.1 c.requires.le_left.4 in omega (arith, mul-le-mul z.1 z.0)
 
 pub overflow_add-end : goal.overflow_add-end
 overflow_add-end c = let z = shape_small _ _ _ c.shape_of-s.ensures c.requires.le_left.1 c.requires.le_left.4 in omega (arith, mul-le-mul z.1 z.0, mul-le-mul z.1 z.1)
 
 pub overflow_mul-end : goal.overflow_mul-end
 overflow_mul-end c = let z = shape_small _ _ _ c.shape_of-s.ensures c.requires.le_left.1 c.requires.le_left.4 in omega (arith, mul-le-mul z.1 z.0, mul-le-mul z.1 z.1)
-
-pub slice_bounds-contract_pair-end : goal.slice_bounds-contract_pair-end
-slice_bounds-contract_pair-end c = let s = c.shape_of-s.result in let long : room s ≤ length c.args.work.now = rw c.shape_of-s.ensures c.requires.mid_bound.2 in matrix_fits s c.args.work.now long
-
-pub slice_bounds-contract_pair-end-2 : goal.slice_bounds-contract_pair-end-2
-slice_bounds-contract_pair-end-2 c = let s = c.shape_of-s.result in let long : room s ≤ length c.args.work.now = rw c.shape_of-s.ensures c.requires.mid_bound.2 in sym (matrix_length s c.args.work.now long)
 
 pub contract_pair-requires : goal.contract_pair-requires
 contract_pair-requires c = let a = c.args in let p = c.requires in let s = c.shape_of-s.result in let long : room s ≤ length a.work.now = rw c.shape_of-s.ensures p.mid_bound.2 in
