@@ -131,6 +131,7 @@ fn nearest_half(found: Found, cut: bool) -> u64
 }
 
 // h * 2^g units, where h may be 2^53. Past the largest f64 the pattern is the infinity's, and not one that follows it.
+#[tactic(auto, using(crate::proofs::Laws::Units::pattern_real, crate::proofs::Laws::FromUnits::pattern_below, crate::proofs::Laws::FromUnits::pattern_above))]
 fn from_units(h: u64, g: u64) -> f64
     requires h_bound { h ≤ 2 ^ 53 }
     requires bound { 0 < g → 2 ^ 52 ≤ h }
@@ -191,7 +192,8 @@ fn half_root(n: Wide, g: u64, guess: f64) -> f64
     }
     let h = wrapping_sub_u64(f64::to_bits(guess), g * 0x10_0000_0000_0000);
     if (0 < h) & (h < 0x20_0000_0000_0000) {
-        if is_half(n, h) {
+        let passes = is_half(n, h);
+        if passes {
             return from_units(h, g);
         }
     }
@@ -421,6 +423,9 @@ fn scaled_sum(a: u64, b: u64, k: u64) -> Wide
     sum(square(2 * a), quotient(square(2 * b), k))
 }
 
+// From so many exponents apart on, the smaller part does not show in the size.
+const FAR: u64 = 27;
+
 // The size of two finite parts, by their bit patterns without signs, the larger first. Their squares are added in units of
 // the larger one's last digit squared, or of the next where the sum has a digit more. From 27 exponents apart on the
 // smaller square does not count.
@@ -432,7 +437,7 @@ fn finite_norm(x: u64, y: u64, guess: f64) -> f64
     let a = integer_decode(x);
     let b = integer_decode(y);
     let k = a.exponent - b.exponent;
-    if k >= 27 {
+    if k >= FAR {
         return f64::from_bits(x);
     }
     let n = scaled_sum(a.significand, b.significand, k);

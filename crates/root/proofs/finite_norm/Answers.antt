@@ -14,8 +14,8 @@ overflow_sub-k c = exponents_ordered _ _ _ _ _ _ c.integer_decode-a.ensures c.in
 pub float_from_bits-result : goal.float_from_bits-result
 float_from_bits-result c = pattern_real _ (le_of_lt c.requires.x_bound)
 
-pub returns-then-k-ge27 : goal.returns-then-k-ge27
-returns-then-k-ge27 c = far _ _ _ _ _ _ c.integer_decode-a.ensures c.integer_decode-b.ensures c.requires.y_le_x c.requires.x_bound c.if-k-ge27.true
+pub returns-then-k-ge-FAR : goal.returns-then-k-ge-FAR
+returns-then-k-ge-FAR c = far _ _ _ _ _ _ c.integer_decode-a.ensures c.integer_decode-b.ensures c.requires.y_le_x c.requires.x_bound c.if-k-ge-FAR.true
 
 pub quotient-requires : goal.quotient-requires
 quotient-requires c = let longer-one : c.scaled_sum-n.result.hi / 2 ^ 54 ≤ 1 = longer_le _ _ _ _ _ _ c.integer_decode-a.ensures c.integer_decode-b.ensures c.requires.y_le_x c.requires.x_bound _ _ c.scaled_sum-n.ensures.value c.scaled_sum-n.ensures.low in

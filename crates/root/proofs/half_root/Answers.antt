@@ -8,15 +8,15 @@ use Rattle.root.proofs.half_root.Goals as goal
 pub float_to_bits-guess : goal.float_to_bits-guess
 float_to_bits-guess c = not_nan _ c.if-guess.false
 
-pub is_half-requires : goal.is_half-requires
-is_half-requires c = let in-range : let h = c.wrapping_sub_u64-h.result in (0 < h) × (h < 2 ^ 53) = let t = (and-eq-true_iff _ _).0 c.if-h.true in (ltb-true _ _ t.0, ltb-true _ _ t.1) in
+pub is_half-passes-requires : goal.is_half-passes-requires
+is_half-passes-requires c = let in-range : let h = c.wrapping_sub_u64-h.result in (0 < h) × (h < 2 ^ 53) = let t = (and-eq-true_iff _ _).0 c.if-h.true in (ltb-true _ _ t.0, ltb-true _ _ t.1) in
     let r = in-range in record { lo_bound = c.requires.lower; h_nonzero = r.0; h_bound = r.1 }
 
 pub from_units-requires : goal.from_units-requires
 from_units-requires c = let in-range : let h = c.wrapping_sub_u64-h.result in (0 < h) × (h < 2 ^ 53) = let t = (and-eq-true_iff _ _).0 c.if-h.true in (ltb-true _ _ t.0, ltb-true _ _ t.1) in
-    let d = tested_digits c.args.n c.args.g _ c.requires (omega (arith, in-range.0)) (sym c.is_half.ensures ∙ c.if-is_half.true) in
+    let d = tested_digits c.args.n c.args.g _ c.requires (omega (arith, in-range.0)) (sym c.is_half-passes.ensures ∙ c.if-passes.true) in
     record { h_bound = d.0; bound = d.1; g_bound = c.requires.exponent }
 
-pub returns-then-is_half : goal.returns-then-is_half
-returns-then-is_half c = let in-range : let h = c.wrapping_sub_u64-h.result in (0 < h) × (h < 2 ^ 53) = let t = (and-eq-true_iff _ _).0 c.if-h.true in (ltb-true _ _ t.0, ltb-true _ _ t.1) in
-    c.from_units.ensures ∙ tested c.args.n c.args.g _ c.requires (omega (arith, in-range.0)) (sym c.is_half.ensures ∙ c.if-is_half.true)
+pub returns-then-passes : goal.returns-then-passes
+returns-then-passes c = let in-range : let h = c.wrapping_sub_u64-h.result in (0 < h) × (h < 2 ^ 53) = let t = (and-eq-true_iff _ _).0 c.if-h.true in (ltb-true _ _ t.0, ltb-true _ _ t.1) in
+    c.from_units.ensures ∙ tested c.args.n c.args.g _ c.requires (omega (arith, in-range.0)) (sym c.is_half-passes.ensures ∙ c.if-passes.true)
