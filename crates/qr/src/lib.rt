@@ -78,7 +78,7 @@ fn dot(w: &[f64], a: usize, b: usize, n: usize) -> Complex
 // d times the n numbers from `from` on, taken from those from `to` on.
 fn take_away(w: &mut [f64], from: usize, to: usize, n: usize, d: Complex)
     requires { (from + n ≤ count w.old) × (to + n ≤ count w.old) }
-    ensures { w.new ≡ qr.takenAway from to n d w.old }
+    ensures { w.new ≡ qr.taken_away from to n d w.old }
 {
     for k in 0..n {
         set_complex(
@@ -92,7 +92,7 @@ fn take_away(w: &mut [f64], from: usize, to: usize, n: usize, d: Complex)
 // Column j's part along column i of q is taken from it, and added to r's entry (i, j).
 fn project_on(w: &mut [f64], high: usize, wide: usize, cap: usize, j: usize, i: usize)
     requires { (i < cap) × (cap ≤ wide) × (j < wide) × (wide * high + cap * wide ≤ count w.old) }
-    ensures { w.new ≡ qr.projectedOn high wide j i w.old }
+    ensures { w.new ≡ qr.projected_on high wide j i w.old }
 {
     let d = dot(w, i * high, j * high, high);
     take_away(w, i * high, j * high, high, d);
@@ -103,7 +103,7 @@ fn project_on(w: &mut [f64], high: usize, wide: usize, cap: usize, j: usize, i: 
 // One pass along each of the columns kept; the residual is the norm of what is left.
 fn one_pass(w: &mut [f64], high: usize, wide: usize, cap: usize, rank: usize, j: usize) -> f64
     requires { (rank ≤ cap) × (cap ≤ wide) × (j < wide) × (wide * high + cap * wide ≤ count w.old) }
-    ensures { qr.passed result w.new ≡ qr.passOf high wide rank j w.old }
+    ensures { qr.passed result w.new ≡ qr.pass_of high wide rank j w.old }
 {
     for i in 0..rank {
         project_on(w, high, wide, cap, j, i);
@@ -123,7 +123,7 @@ fn keep(
     residual: f64,
 ) -> usize
     requires { (rank ≤ cap) × (cap ≤ wide) × (j < wide) × (wide * high + cap * wide ≤ count w.old) }
-    ensures w_after { qr.kept result w.new ≡ qr.keptOf high wide cap j norm rank (qr.passed residual w.old) }
+    ensures w_after { qr.kept result w.new ≡ qr.kept_of high wide cap j norm rank (qr.passed residual w.old) }
     ensures upper_bound { result ≤ cap }
 {
     if rank >= cap {

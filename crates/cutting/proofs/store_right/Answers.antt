@@ -1,0 +1,12 @@
+-- What is lent to a fill is the decomposition; the arms are told which side carries the weight.
+use native.Mathlib.Omega.{arith}
+use Rattle.cutting.specs.Shape.{right_stride, right_in, values_in}
+use Rattle.cutting.proofs.store_right.Goals as goal
+
+pub fill_vt_site_data-requires : goal.fill_vt_site_data-requires
+fill_vt_site_data-requires c = let a = c.args in let p = c.requires in let h = p.s_value.1 in
+    rw (h.first, c.right_factor-f.ensures) (p.right_bound.1, p.right_bound.0, p.right_bound.2, p.s_value.2, omega (arith, right_stride a.bonds.left a.bonds.right a.s p.s_value.0), right_in a.s a.work.now a.order.now h a.bonds.mid)
+
+pub fill_scaled_vt_data-requires : goal.fill_scaled_vt_data-requires
+fill_scaled_vt_data-requires c = let a = c.args in let p = c.requires in let h = p.s_value.1 in
+    rw (h.first, c.right_factor-f.ensures) (p.right_bound.1, p.right_bound.0, p.right_bound.2, p.s_value.2, omega (arith, right_stride a.bonds.left a.bonds.right a.s p.s_value.0), right_in a.s a.work.now a.order.now h a.bonds.mid, values_in a.s a.work.now a.order.now h a.bonds.mid)
