@@ -1,0 +1,14 @@
+-- The invariant: the steps that are left, from where the walk is, end where all of them end.
+use mathlib.Core.Path.{◌≡◌}
+use Prim.Native.Nat.{◌-◌, ◌<◌}
+use lib.ListN.{length}
+use Rattle.model.specs.Slots.{held}
+use Rattle.model.specs.Moves.{walk_left}
+use Rattle.moves.specs.Ready.{Ready}
+use Rattle.moves.proofs.walk_left.Given as goal
+
+abbrev pub invariant-loop-at : goal.invariant-loop-at
+invariant-loop-at l = Ready l.out l.store l.work × (l.out.num_qubits ≡ l.initial.out.num_qubits) × (length l.store ≡ length l.initial.store) × (length l.work ≡ length l.initial.work) × (l.at < l.out.num_qubits) × (walk_left (l.at - l.to) l.at (held l.out l.store) ≡ walk_left (l.from - l.to) l.from (held l.initial.out l.initial.store))
+
+abbrev pub decreases-loop-at : goal.decreases-loop-at
+decreases-loop-at l = l.at - l.to

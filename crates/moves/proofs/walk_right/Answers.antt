@@ -1,0 +1,20 @@
+use mathlib.Core.Path.{refl, sym, ◌∙◌}
+use Prim.Native.Nat.{◌+◌, ◌<◌}
+use native.Mathlib.Omega.{arith}
+use Rattle.moves.specs.Ready.{right_stays, ready_after}
+use Rattle.moves.specs.Walks.{right_turn, right_done}
+use Rattle.moves.proofs.walk_right.Goals as goal
+
+pub loop-at-preserved : goal.loop-at-preserved
+loop-at-preserved c = let i = c.loop-at.invariant in let t = c.loop-at-test.true in
+    let b : c.loop-at.at + 1 < c.loop-at.out.num_qubits = omega (arith, t, i.1, c.requires.to_bound) in
+    let s = right_stays c.loop-at.out c.shift_center_right-out.result c.loop-at.store c.shift_center_right-out.new.store c.loop-at.work i.0 c.loop-at.at b c.shift_center_right-out.ensures in (
+      ready_after c.loop-at.out c.shift_center_right-out.result c.loop-at.store c.shift_center_right-out.new.store c.loop-at.work c.shift_center_right-out.new.work i.0 s c.shift_center_right-out.auto.work,
+      s.qubits ∙ i.1,
+      s.long ∙ i.2,
+      c.shift_center_right-out.auto.work ∙ i.3,
+      rw (c.shift_center_right-out.ensures, ← right_turn) i.4,
+    )
+
+pub returns : goal.returns
+returns c = sym (right_done _ _ _ c.loop-at-test.false) ∙ c.loop-at.invariant.4
