@@ -1,5 +1,5 @@
 -- Room for one step, and what it leaves in the two slots.
-use Rattle.std.specs.Prelude.{ℕ, ◌+◌, ◌-◌, ◌*◌, ◌≤◌, ◌<◌, min, ◌≡◌, List, ◌++◌, length, take, drop, Float}
+use Rattle.std.specs.Prelude.{ℕ, ◌+◌, ◌*◌, ◌≤◌, ◌<◌, min, ◌≡◌, List, ◌++◌, length, take, drop, Float}
 use Rattle.std.proofs.Common.{ap, ◌∙◌, mul-le-mul, mul-le-mul_right, le_refl, le_trans, arith, length-append, length-drop, length-take-le, take_at, take-take, Fits}
 use Rattle.std.proofs.Math.Nat.{min-le_right}
 use Rattle.std.specs.Int.{w64}

@@ -1,7 +1,7 @@
 -- A recorded centre of a sound chain is a site; the chain whose centre is the site is handed back.
 use mathlib.Core.Path.{refl}
 use Rattle.model.specs.Slots.{held}
-use Rattle.moves.specs.Walks.{on_unknown, on_centre, on_own}
+use Rattle.moves.specs.Walks.{on_own}
 use Rattle.moves.proofs.center_on.Goals as goal
 
 pub returns-then-from-k : goal.returns-then-from-k

@@ -1,5 +1,4 @@
 -- The three bonds are within the cap, and the new one is at most the old.
-use native.Mathlib.Omega.{arith}
 use Rattle.moves.specs.Ready.{pair_left, stepped_left}
 use Rattle.moves.proofs.shift_center_left.Goals as goal
 

@@ -1,6 +1,5 @@
 -- The factors that are written are those of the site, and the copy serves for the neighbour.
-use mathlib.Core.Path.{◌∙◌}
-use Rattle.moves.specs.Steps.{same_room, left_factored, left_sizes, left_copied, left_stepped}
+use Rattle.moves.specs.Steps.{left_stepped}
 use Rattle.moves.proofs.step_left.Goals as goal
 
 pub returns-clause-store_after : goal.returns-clause-store_after

@@ -1,6 +1,5 @@
 -- The factors that are written are those of the site, and the copy serves for the neighbour.
-use mathlib.Core.Path.{◌∙◌}
-use Rattle.moves.specs.Steps.{same_room, right_factored, right_sizes, right_copied, right_stepped}
+use Rattle.moves.specs.Steps.{right_stepped}
 use Rattle.moves.proofs.step_right.Goals as goal
 
 pub returns-clause-store_after : goal.returns-clause-store_after
