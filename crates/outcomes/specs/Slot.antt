@@ -8,7 +8,7 @@ use Rattle.model.specs.declared.Chain.{Chain}
 use Rattle.model.specs.declared.Projected.TheVariants.{Nothing, Kept}
 use Rattle.model.specs.Chain.{bond_left, bond_right}
 use Rattle.model.specs.Slots.{State, held, slot_of, with_site}
-use Rattle.model.specs.Born.{weight, projected_site, reset_site, weight_at, drawn_at, projected_at, reset_at}
+use Rattle.model.specs.Born.{projected_site, reset_site, weight_at, drawn_at, projected_at, reset_at}
 use Rattle.model.specs.Calls.{project_answer}
 
 -- the store, with another site at k unless the weight w is at most the clamp

@@ -7,20 +7,13 @@ use Rattle.model.specs.Environment.{Env}
 use Rattle.environments.specs.Walk.{Walkable, Crossing, crossing, left_start, left_turn, left_done}
 use Rattle.environments.proofs.compute_left_env.Goals as goal
 
-first_fits : (chain : Chain) (store work : List Float) (k dim : ℕ) → Walkable chain store work → k < chain.num_qubits → dim ≡ bond_left chain k → (k < 64) × (1 ≤ dim) × (dim ≤ 128) × (dim * dim ≤ 16384) × (2 * (dim * dim) ≤ length work)
+first_fits : (chain : Chain) (store work : List Float) (k dim : ℕ) → Walkable chain store work → k < chain.num_qubits → dim ≡ bond_left chain k → (k < 64) × (1 ≤ dim) × (dim ≤ 128) × (2 * (dim * dim) ≤ length work)
 first_fits chain store work k dim w l e =
     let x : Crossing chain.max_bond_dim k dim (bond_right chain k) store work = crossing chain store work work k dim (bond_right chain k) w refl l e refl in
-    let y : dim ≤ 128 = omega (arith, x.left.1, x.cap) in
-    (x.place, x.left.0, y, mul-le-mul y y, omega (arith, x.work_room_lem, mul-le-mul x.left.1 x.left.1))
+    (x.place, x.left.0, omega (arith, x.left.1, x.cap), omega (arith, x.work_room_lem, mul-le-mul x.left.1 x.left.1))
 
 pub bounds-chain-from : goal.bounds-chain-from
 bounds-chain-from c = (first_fits _ _ _ _ _ c.requires.walkable c.requires.from_bound.0 refl).0
-
-pub overflow_mul-e : goal.overflow_mul-e
-overflow_mul-e c = let f = first_fits c.args.chain c.args.store.now c.args.work.now c.args.from c.wide-dim.result c.requires.walkable c.requires.from_bound.0 c.wide-dim.ensures in omega arith
-
-pub overflow_mul-e-2 : goal.overflow_mul-e-2
-overflow_mul-e-2 c = let f = first_fits c.args.chain c.args.store.now c.args.work.now c.args.from c.wide-dim.result c.requires.walkable c.requires.from_bound.0 c.wide-dim.ensures in omega arith
 
 pub slice_bounds-identity-end : goal.slice_bounds-identity-end
 slice_bounds-identity-end c = let f = first_fits c.args.chain c.args.store.now c.args.work.now c.args.from c.wide-dim.result c.requires.walkable c.requires.from_bound.0 c.wide-dim.ensures in omega arith
