@@ -1,5 +1,5 @@
 #!/usr/bin/env python3
-"""Runs target/bin/chainrun, or the program that is named, on the streams of the stored list, whole and in pieces, and on
+"""Runs crates/chainrun/out/chainrun, or the program that is named, on the streams of the stored list, whole and in pieces, and on
 the cases that document 01 names; the lines it has to print are the oracle's (crates/replay/stdout). Streams that start at
 exponent 63 are run at others above it too. Then on the sample stream, against what README shows. Prints nothing
 unless something differs."""
@@ -13,7 +13,7 @@ import sys
 import stored
 
 TOP = pathlib.Path(__file__).resolve().parent.parent
-CHAINRUN = pathlib.Path(sys.argv[1]) if len(sys.argv) > 1 else TOP / "target/bin/chainrun"
+CHAINRUN = pathlib.Path(sys.argv[1]) if len(sys.argv) > 1 else TOP / "crates/chainrun/out/chainrun"
 WHOLE = bytes.fromhex("15000100020205" + "00" * 16 + "05000300000101" + "040004000000")
 START = WHOLE[:23]
 REFUSED_START = START[:5] + b"\0" + START[6:]

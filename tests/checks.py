@@ -19,7 +19,7 @@ def listed():
         line = line.split("#")[0].strip()
         if line:
             name, _, needs = line.partition(":")
-            crates[name.strip()] = needs.split()
+            crates[name.split()[0]] = needs.split()
     return crates
 
 
@@ -107,10 +107,10 @@ def promises():
 
 def promises_are_proved_and_named():
     """Each record Promised has an inhabitant, and docs/PROMISES.md names its fields and no others."""
-    named = set(re.findall(r"`(\w+)\.([\w-]+)`", (TOP / "docs/PROMISES.md").read_text()))
+    named = set(re.findall(r"`(\w+)\.(\w+)`", (TOP / "docs/PROMISES.md").read_text()))
     records, out = promises(), []
     for crate, fields in records.items():
-        if not any(re.search(r"^pub promised : Promised$", p.read_text(), re.M) for p in CRATES.glob(f"{crate}/specs/**/*.antt")):
+        if not any(re.search(r"^pub promised : Promised$", p.read_text(), re.M) for p in CRATES.glob(f"{crate}/*/**/*.antt")):
             out.append(f"{crate} has no promised : Promised")
         out += [f"docs/PROMISES.md does not name {crate}.{f}" for f in fields if (crate, f) not in named]
     return out + [f"docs/PROMISES.md names {c}.{f}, which is no field of a Promised" for c, f in sorted(named) if f not in records.get(c, [])]
@@ -191,7 +191,7 @@ TYPES = [
     ("complex", r"pub struct Complex \{\s*pub re: f64,\s*pub im: f64,\s*\}"),
 ]
 # Laws that a form asks for: file, name.
-LAWS = [("root/specs/Theorems.antt", "root-nearest"), ("root/specs/Root.antt", "root-oneF")]
+LAWS = [("root/proofs/Laws/Theorems.antt", "root_nearest"), ("root/proofs/Laws/Root.antt", "root_one_f")]
 
 
 def required_forms_are_there():

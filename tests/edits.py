@@ -2,7 +2,7 @@
 """The must-fail edits, by the promise that each breaks. Writes docs/EDITS.md; tests/checks.py holds the page to it.
 
 An edit's first line is '# Breaks NAME: SENTENCE'. NAME is a public function or one of a program, as crate::function, or a
-definition or a theorem of specs/; SENTENCE is what holds and the edited crate does not do."""
+definition or a theorem of specs/ or proofs/; SENTENCE is what holds and the edited crate does not do."""
 import pathlib
 import re
 
@@ -25,9 +25,10 @@ def edits():
 
 
 def defined():
-    """The definitions, laws and promises of specs/, by name, each with its files: a definition before a law of the same name."""
+    """The definitions, laws and promises, by name, each with its files: a definition before a law of the same name."""
     names = {}
-    for path in sorted(CRATES.glob("*/specs/**/*.antt"), key=lambda p: ("Laws" in p.parts, p)):
+    files = [*CRATES.glob("*/specs/**/*.antt"), *CRATES.glob("*/proofs/*.antt"), *CRATES.glob("*/proofs/Laws/**/*.antt")]
+    for path in sorted(files, key=lambda p: ("proofs" in p.parts, p)):
         text = path.read_text()
         promised = re.search(r"^pub record Promised .*\n((?:  .*\n|\n)*)", text, re.M)
         fields = re.findall(r"^  pub (\S+) :", promised.group(1), re.M) if promised else []

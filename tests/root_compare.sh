@@ -3,9 +3,9 @@
 #   root_compare.sh [PATTERNS [PAIRS [SEED]]]
 set -eu
 cd "$(dirname "$0")/.."
-rt staticlib root_export
+[ -f crates/root_export/out/libroot_export.a ] || (cd crates/root_export && rt lib)
 mkdir -p target/tests
-gcc -O2 -Wall -Wextra -o target/tests/root_compare tests/root_compare.c target/staticlib/libroot_export.a -lm
-gcc -shared -o target/tests/libroot_export.so -Wl,--whole-archive target/staticlib/libroot_export.a -Wl,--no-whole-archive -lm
+gcc -O2 -Wall -Wextra -o target/tests/root_compare tests/root_compare.c crates/root_export/out/libroot_export.a -lm
+gcc -shared -o target/tests/libroot_export.so -Wl,--whole-archive crates/root_export/out/libroot_export.a -Wl,--no-whole-archive -lm
 target/tests/root_compare "${1:-2000000}" "${3:-1}"
 python3 tests/size_compare.py target/tests/libroot_export.so "${2:-100000}" "${3:-1}"

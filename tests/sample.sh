@@ -2,9 +2,9 @@
 # Proves and builds chainrun with everything below it, runs it on the sample stream, and says what each line means.
 set -euo pipefail
 cd "$(dirname "$0")/.."
-mkdir -p target
-rt check chainrun > target/sample.log 2>&1 || { tail -n 30 target/sample.log; exit 1; }
-tail -n 1 target/sample.log
+log=$(mktemp)
+trap 'rm -f "$log"' EXIT
+(cd crates/chainrun && rt run < ../../samples/ghz.run) > "$log" || { tail -n 30 "$log"; exit 1; }
 meaning=(
     'start: three qubits under a cap of 4'
     'gate: Hadamard on qubit 0, beside qubit 1'
@@ -18,7 +18,7 @@ meaning=(
     'kind 9: there is none, so reading stops'
 )
 k=0
-target/bin/chainrun < samples/ghz.run | while IFS= read -r line; do
+while IFS= read -r line; do
     printf '%-24s %s\n' "$line" "${meaning[$k]}"
     k=$((k + 1))
-done
+done < "$log"

@@ -42,7 +42,7 @@ def rust_files(folder):
 
 run("python3", os.path.join(TOP, "tests", "oracle", "build_oracle.py"), RUST, OUT)
 for name in ("root_export", "bench_export"):
-    run("rt", "staticlib", name, cwd=TOP, stdout=subprocess.DEVNULL, stderr=subprocess.DEVNULL)
+    run("rt", "lib", cwd=os.path.join(TOP, "crates", name), stdout=subprocess.DEVNULL, stderr=subprocess.DEVNULL)
 
 SIZE = "crate::surround::complex_size(g_pq)"
 NOTED = {
@@ -93,8 +93,8 @@ impl PortRoot for f64 {
 # the benchmark, over all three
 shutil.copy(os.path.join(HERE, "port_bench.rs"), os.path.join(bench, "src"))
 replaced(os.path.join(bench, "Cargo.toml"), "[dependencies]", '[[bin]]\nname = "port_bench"\npath = "src/port_bench.rs"\n\n[dependencies]\nshipped = { path = "../shipped" }\nrooted = { path = "../rooted" }')
-libs = os.path.join(TOP, "target", "staticlib")
-flags = f"-L {libs} -l static=bench_export -l static=root_export"
+libs = " ".join("-L " + os.path.join(TOP, "crates", name, "out") for name in ("root_export", "bench_export"))
+flags = f"{libs} -l static=bench_export -l static=root_export"
 run("cargo", "build", "--release", "--offline", "--quiet", "--bin", "port_bench", cwd=bench, env={**os.environ, "RUSTFLAGS": flags + " -Awarnings"})
 program = os.path.join(bench, "target", "release", "port_bench")
 if sys.argv[3:] != ["count"]:

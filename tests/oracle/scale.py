@@ -3,7 +3,7 @@
 
     python3 tests/oracle/scale.py OUT [--seeds N] [--from SEED] [--fuzz N] [--jobs N] [--programs FOLDER]
 
-OUT has the oracle (build_oracle.py), FOLDER, target/bin by default, `chainrun` and `replay` (rt check chainrun replay).
+OUT has the oracle (build_oracle.py), FOLDER, crates by default, `chainrun/out/chainrun` and `replay/out/replay` (rt ci).
 Streams: make_list.py's, drawn anew from each seed; those that are the same at every seed are left out. Where one starts
 at exponent 63, an exponent from 63 to 255 is drawn for it. The lines of `chainrun` and the whole states and environments
 of `replay` are compared with the oracle's text, and those of `replay` at exponents 63, 64, 200 and 255 with each other.
@@ -41,7 +41,7 @@ def one_seed(job):
     r = random.Random(seed)
     plain = [(c, n, data) for c, n, data, _, _ in make_list.streams if c not in FIXED]
     drawn = [(c, n, stored.at_exponent(r.randrange(63, 256), data)) for c, n, data in plain]
-    replayed = lambda streams: run([programs / "replay"], b"".join(struct.pack("<I", len(d)) + d for d in streams))[1]
+    replayed = lambda streams: run([programs / "replay/out/replay"], b"".join(struct.pack("<I", len(d)) + d for d in streams))[1]
     text = replayed(d for _, _, d in drawn)
     count, faults = collections.Counter(), []
     for exponent in (63, 64, 200, 255):
@@ -55,7 +55,7 @@ def one_seed(job):
         count["records"] += len(lines)
         if states != want:
             faults.append(f"seed {seed}, {category}, {name}: whole states differ")
-        if run([programs / "chainrun"], data)[1].decode().splitlines() != lines:
+        if run([programs / "chainrun/out/chainrun"], data)[1].decode().splitlines() != lines:
             faults.append(f"seed {seed}, {category}, {name}: chainrun's lines differ")
     return count, faults
 
@@ -83,7 +83,7 @@ def fuzzed(job):
     for k in range(count):
         data = changed(r, r.choice(streams))
         try:
-            status, text = run([programs / "chainrun"], data)
+            status, text = run([programs / "chainrun/out/chainrun"], data)
         except subprocess.TimeoutExpired:
             faults.append(f"fuzz {seed}/{k}: no end within ten seconds: {data.hex()}")
             continue
@@ -101,7 +101,7 @@ def main():
     p.add_argument("--from", type=int, default=1000, dest="first")
     p.add_argument("--fuzz", type=int, default=100000)
     p.add_argument("--jobs", type=int, default=2)
-    p.add_argument("--programs", type=pathlib.Path, default=TOP / "target/bin")
+    p.add_argument("--programs", type=pathlib.Path, default=TOP / "crates")
     a = p.parse_args()
     oracle = str(pathlib.Path(a.out) / "oracle_run")
     chunk = 1000
