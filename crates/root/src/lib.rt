@@ -117,6 +117,7 @@ fn digits(d: u64, mut q: u64, mut r: u64) -> Found
 
 // Half of the digits found, rounded to the nearest, ties to even. A half is no tie where anything is left below it: a
 // rest, or what was cut off the number's end.
+#[tactic(auto, using(crate::proofs::Laws::NearestHalf::half_more, crate::proofs::Laws::NearestHalf::half_exact))]
 fn nearest_half(found: Found, cut: bool) -> u64
     requires { found.root < 2 ^ 54 }
     ensures { result ≡ nearest_half found.root (cut || nat_lt 0 found.rest) }
