@@ -7,6 +7,8 @@ use gates::NamedGate;
 use lines::{Detail, Line, write_line};
 use model::{Answer, Applied, Chain, Measured};
 use record::read_record;
+use std::io;
+use std::io::Write;
 
 fn of_answer(a: Answer) -> u8 {
     match a {
@@ -104,13 +106,16 @@ fn unknown_kind() -> u8 {
     r.refused
 }
 
-fn put(text: &[u8], n: usize) {
+// The first n bytes, where there are so many.
+fn put<W: Write>(writer: &mut W, text: &[u8], n: usize) -> io::Result<()> {
     if n <= text.len() {
-        io::write_all(1, &text[..n]);
+        writer.write_all(&text[..n])
+    } else {
+        Ok(())
     }
 }
 
-fn show(kind: u8, number: u8) {
+fn show<W: Write>(writer: &mut W, kind: u8, number: u8) -> io::Result<()> {
     let mut out = [0u8; 32];
     let n = write_line(
         &mut out,
@@ -120,18 +125,19 @@ fn show(kind: u8, number: u8) {
             detail: Detail::Empty,
         },
     );
-    put(&out, n);
+    put(writer, &out, n)
 }
 
-fn main() {
+fn main(rt: HostRuntime) -> io::Result<()> {
+    let mut writer = rt.stdout();
     let mut store = [0.0; 512];
     let mut work = [0.0; 1344];
-    show(1, setting_out_of_range(&mut store));
-    show(1, short_store());
-    show(3, unsound_record(&mut store, &mut work));
-    show(3, doubled_qubit(&mut store, &mut work));
-    show(5, draw_of_one(&mut store, &mut work));
-    show(3, above_workspace(&mut store, &mut work));
-    show(3, stored_nan(&mut store, &mut work));
-    show(0, unknown_kind());
+    show(&mut writer, 1, setting_out_of_range(&mut store))?;
+    show(&mut writer, 1, short_store())?;
+    show(&mut writer, 3, unsound_record(&mut store, &mut work))?;
+    show(&mut writer, 3, doubled_qubit(&mut store, &mut work))?;
+    show(&mut writer, 5, draw_of_one(&mut store, &mut work))?;
+    show(&mut writer, 3, above_workspace(&mut store, &mut work))?;
+    show(&mut writer, 3, stored_nan(&mut store, &mut work))?;
+    show(&mut writer, 0, unknown_kind())
 }

@@ -6,25 +6,28 @@
 ghost use Rattle.std.specs.Prelude.{◌≡◌, ◌≤◌, ◌<◌, length};
 
 use bytes_le::u32_at;
-use libc::{STDIN_FILENO, STDOUT_FILENO};
 use lines::{Line, write_line};
 use record::more_bytes;
 use session::{Session, new_session, step};
 use state_text::{write_state, write_text};
+use std::io;
+use std::io::{Read, Write};
 
 // ---- records
 
 // The first n bytes, where there are so many.
-fn write_front(text: &[u8], n: usize) {
+fn write_front<W: Write>(writer: &mut W, text: &[u8], n: usize) -> io::Result<()> {
     if n <= text.len() {
-        write_text(&text[..n]);
+        write_text(writer, &text[..n])
+    } else {
+        Ok(())
     }
 }
 
-fn write_answer(line: Line) {
+fn write_answer<W: Write>(writer: &mut W, line: Line) -> io::Result<()> {
     let mut text = [0u8; 32];
     let n = write_line(&mut text, line);
-    write_front(&text, n);
+    write_front(writer, &text, n)
 }
 
 // Where the record behind the one at an index begins, or the stream's end.
@@ -52,107 +55,130 @@ struct Turn {
     stops: bool,
 }
 
-fn replay_record(
+fn replay_record<W: Write>(
+    writer: &mut W,
     session: Session,
     store: &mut [f64],
     work: &mut [f64],
     out: &mut [f64],
     bytes: &[u8],
-) -> Turn {
+) -> io::Result<Turn> {
     let stepped = step(session, store, work, bytes);
     let line = stepped.line;
     let session = stepped.session;
-    write_answer(line);
+    write_answer(writer, line)?;
     let stops = line.number == 8;
     if session.started && !stops {
         let chain = session.chain;
-        write_state(chain, store, work, out);
+        write_state(writer, chain, store, work, out)?;
     }
-    Turn {
+    Ok(Turn {
         session: session,
         stops: stops,
-    }
+    })
 }
 
-fn replay_records(store: &mut [f64], work: &mut [f64], out: &mut [f64], bytes: &[u8]) {
+fn replay_records<W: Write>(
+    writer: &mut W,
+    store: &mut [f64],
+    work: &mut [f64],
+    out: &mut [f64],
+    bytes: &[u8],
+) -> io::Result<()> {
     let mut session = new_session();
     let mut at: usize = 0;
     while at < bytes.len() {
-        let turn = replay_record(session, store, work, out, &bytes[at..]);
+        let turn = replay_record(writer, session, store, work, out, &bytes[at..])?;
         if turn.stops {
             break;
         }
         session = turn.session;
         at = next(bytes, at);
     }
+    Ok(())
 }
 
 // A stream from a session before any start. The store and the work slice are as long as those that `chainrun` lends.
-fn replay_stream(bytes: &[u8]) {
+fn replay_stream<W: Write>(writer: &mut W, bytes: &[u8]) -> io::Result<()> {
     let mut store = [0.0; 512];
     let mut work = [0.0; 1344];
     let mut out = [0.0; 512];
-    replay_records(&mut store, &mut work, &mut out, bytes);
+    replay_records(writer, &mut store, &mut work, &mut out, bytes)
 }
 
 // ---- the list
 
-// The length of the next stream; at the list's end what no length of 4 bytes can be.
-fn read_length() -> usize {
-    let mut bytes = [0u8; 4];
-    let n = io::read_full(STDIN_FILENO, &mut bytes);
-    if n < 4 {
-        return usize::MAX;
+// Reads until the slice is full or the input ends, and answers how many bytes came.
+fn read_full<R: Read>(reader: &mut R, bytes: &mut [u8]) -> io::Result<usize> {
+    let mut done: usize = 0;
+    while done < bytes.len() {
+        let got = reader.read(&mut bytes[done..])?;
+        if got == 0 {
+            break;
+        }
+        done = done + got;
     }
-    u32_at(&bytes, 0) as usize
+    Ok(done)
+}
+
+// The length of the next stream; at the list's end what no length of 4 bytes can be.
+fn read_length<R: Read>(reader: &mut R) -> io::Result<usize> {
+    let mut bytes = [0u8; 4];
+    let n = read_full(reader, &mut bytes)?;
+    if n < 4 {
+        return Ok(usize::MAX);
+    }
+    Ok(u32_at(&bytes, 0) as usize)
 }
 
 // Reads n bytes to the slice's start, and answers whether it holds so many and there were so many.
-fn read_front(bytes: &mut [u8], n: usize) -> bool {
+fn read_front<R: Read>(reader: &mut R, bytes: &mut [u8], n: usize) -> io::Result<bool> {
     if bytes.len() < n {
-        return false;
+        return Ok(false);
     }
-    let got = io::read_full(STDIN_FILENO, &mut bytes[..n]);
-    got == n
+    let got = read_full(reader, &mut bytes[..n])?;
+    Ok(got == n)
 }
 
-fn replay_front(bytes: &[u8], n: usize) {
+fn replay_front<W: Write>(writer: &mut W, bytes: &[u8], n: usize) -> io::Result<()> {
     if n <= bytes.len() {
-        replay_stream(&bytes[..n]);
+        replay_stream(writer, &bytes[..n])
+    } else {
+        Ok(())
     }
 }
 
-fn write_refused(number: u64) {
-    write_text(b"stream ");
-    io::print_decimal(STDOUT_FILENO, number);
-    write_text(b" refused: longer than 4096 bytes\n");
+fn write_refused<W: Write>(writer: &mut W, number: u64) -> io::Result<()> {
+    writeln!(writer, "stream {number} refused: longer than 4096 bytes")
 }
 
 // The next stream under its number, and whether there was one. One that is longer than the buffer is refused, and ends
 // the list.
-fn replay_next(number: u64) -> bool {
-    let mut bytes = io::buffer();
-    let size = read_length();
+fn replay_next<R: Read, W: Write>(reader: &mut R, writer: &mut W, number: u64) -> io::Result<bool> {
+    let mut bytes = [0u8; 4096];
+    let size = read_length(reader)?;
     if size == usize::MAX {
-        return false;
+        return Ok(false);
     }
     if bytes.len() < size {
-        write_refused(number);
-        return false;
+        write_refused(writer, number)?;
+        return Ok(false);
     }
-    if !read_front(&mut bytes, size) {
-        return false;
+    if !read_front(reader, &mut bytes, size)? {
+        return Ok(false);
     }
-    write_text(b"stream ");
-    io::print_decimal(STDOUT_FILENO, number);
-    write_text(b"\n");
-    replay_front(&bytes, size);
-    true
+    writeln!(writer, "stream {number}")?;
+    replay_front(writer, &bytes, size)?;
+    Ok(true)
 }
 
-fn main() {
-    let mut number: u64 = 0;
-    while number < u64::MAX && replay_next(number) {
-        number = number + 1;
+fn main(rt: HostRuntime) -> io::Result<()> {
+    let mut reader = rt.stdin();
+    let mut writer = rt.stdout();
+    for number in 0..u64::MAX {
+        if !replay_next(&mut reader, &mut writer, number)? {
+            break;
+        }
     }
+    Ok(())
 }

@@ -7,6 +7,8 @@ use complex::Complex;
 use gates::NamedGate;
 use lines::{Detail, Line, write_line};
 use model::{Applied, Gated, Projected, Reason};
+use std::io;
+use std::io::Write;
 
 // A Hadamard gate on the first of two qubits, the second left alone.
 fn hadamard_first() -> [[Complex; 4]; 4] {
@@ -32,33 +34,35 @@ fn bell_pair(store: &mut [f64], work: &mut [f64]) -> Gated {
     apply_named_gate(chain, store, work, 0, 1, NamedGate::Cx)
 }
 
-// A word, on standard output.
-fn say(word: &[u8]) {
-    io::write_all(1, word);
+// A word.
+fn say<W: Write>(writer: &mut W, word: &[u8]) -> io::Result<()> {
+    writer.write_all(word)
 }
 
 // Why the bond that a gate left is as wide as it is.
-fn show_reason(answer: Applied) {
+fn show_reason<W: Write>(writer: &mut W, answer: Applied) -> io::Result<()> {
     match answer {
         Applied::Done(reason) => match reason {
-            Reason::Floor => say(b"Floor\n"),
-            Reason::Cap => say(b"Cap\n"),
-            Reason::Tolerance => say(b"Tolerance\n"),
-            Reason::Full => say(b"Full\n"),
+            Reason::Floor => say(writer, b"Floor\n"),
+            Reason::Cap => say(writer, b"Cap\n"),
+            Reason::Tolerance => say(writer, b"Tolerance\n"),
+            Reason::Full => say(writer, b"Full\n"),
         },
-        Applied::Refused(_) => say(b"refused\n"),
+        Applied::Refused(_) => say(writer, b"refused\n"),
     }
 }
 
-// The first n bytes, on standard output.
-fn print(text: &[u8], n: usize) {
+// The first n bytes, where there are so many.
+fn print<W: Write>(writer: &mut W, text: &[u8], n: usize) -> io::Result<()> {
     if n <= text.len() {
-        io::write_all(1, &text[..n]);
+        writer.write_all(&text[..n])
+    } else {
+        Ok(())
     }
 }
 
 // What the projection answered, as a line.
-fn show(answer: Projected) {
+fn show<W: Write>(writer: &mut W, answer: Projected) -> io::Result<()> {
     let line = match answer {
         Projected::Kept(weight) => Line {
             kind: 4,
@@ -78,17 +82,18 @@ fn show(answer: Projected) {
     };
     let mut text = [0u8; 25];
     let n = write_line(&mut text, line);
-    print(&text, n);
+    print(writer, &text, n)
 }
 
-fn main() {
+fn main(rt: HostRuntime) -> io::Result<()> {
+    let mut writer = rt.stdout();
     let mut store = [0.0; 32];
     let mut work = [0.0; 352];
     let bell = bell_pair(&mut store, &mut work);
     let answer = bell.answer;
-    show_reason(answer);
+    show_reason(&mut writer, answer)?;
     let chain = bell.chain;
     let seen = project(chain, &mut store, &mut work, 1, true);
     let outcome = seen.answer;
-    show(outcome);
+    show(&mut writer, outcome)
 }
