@@ -1,6 +1,4 @@
 use mathlib.Core.Path.{◌∙◌}
-use native.Mathlib.Omega.{arith}
-use Rattle.routing.specs.Kept.{sites_two}
 use Rattle.routing.specs.Runs.{run_between}
 use Rattle.routing.proofs.apply_two_qubit_gate.Goals as goal
 

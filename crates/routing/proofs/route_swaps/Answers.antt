@@ -1,4 +1,4 @@
-use mathlib.Core.Path.{refl, sym, ◌∙◌}
+use mathlib.Core.Path.{sym, ◌∙◌}
 use native.Mathlib.Omega.{arith}
 use Rattle.cuts.specs.Attempts.{ready_keeps}
 use Rattle.routing.specs.Kept.{step_keeps}
