@@ -1,5 +1,5 @@
 -- A pair of neighbours: its bonds, room to cut it, and the record after the cut.
-use Rattle.std.specs.Prelude.{ℕ, ◌+◌, ◌*◌, ◌%◌, ◌^◌, ◌≤◌, ◌<◌, min, max, ◌≡◌, List, ltb, length, get_or, Float}
+use Rattle.std.specs.Prelude.{ℕ, ◌+◌, ◌*◌, ◌%◌, ◌^◌, ◌≤◌, ◌<◌, min, ◌≡◌, List, ltb, length, get_or, Float}
 use Rattle.std.proofs.Common.{ap, sym, ◌∙◌, mul-le-mul, mod-eq_of_lt, arith, le-ltb}
 use Rattle.std.proofs.Math.Nat.{min-eq_right, pow-le-pow_right}
 use Rattle.std.proofs.Math.Decide.{dec_lt}

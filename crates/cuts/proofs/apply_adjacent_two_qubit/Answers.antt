@@ -1,10 +1,8 @@
 use mathlib.Core.Path.{refl, sym, ◌∙◌}
 use native.Mathlib.Omega.{arith}
 use borrow.Author.Tests.{not-true, not-false}
-use Rattle.model.specs.Slots.{held}
-use Rattle.model.proofs.Laws.SoundKept.{keeps_none}
 use Rattle.cuts.specs.Pair.{pair_of}
-use Rattle.cuts.specs.Attempts.{ready_keeps, established_keeps, keeps_centre_lem, adjacent_above, centered_once, bare_once, twice}
+use Rattle.cuts.specs.Attempts.{ready_keeps, established_keeps, adjacent_above, centered_once, bare_once, twice}
 use Rattle.cuts.proofs.apply_adjacent_two_qubit.Goals as goal
 
 pub returns-then-workspace_exceeded : goal.returns-then-workspace_exceeded

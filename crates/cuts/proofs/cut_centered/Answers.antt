@@ -1,6 +1,5 @@
-use mathlib.Core.Path.{ap, ◌∙◌}
 use native.Mathlib.Omega.{arith}
-use Rattle.cuts.specs.Attempts.{ready_keeps, prepared_keeps, prepared_by}
+use Rattle.cuts.specs.Attempts.{ready_keeps, prepared_keeps}
 use Rattle.cuts.proofs.cut_centered.Goals as goal
 
 pub cut_prepared-requires : goal.cut_prepared-requires

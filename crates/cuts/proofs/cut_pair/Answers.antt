@@ -1,6 +1,4 @@
 -- Of every record that has these settings and bonds: the three ways in which the cut of its pair ends.
-use native.Mathlib.Omega.{arith}
-use Rattle.cuts.specs.Pair.{pair_with}
 use Rattle.cuts.specs.Attempts.{cut_nan, cut_again, cut_stored_lem}
 use Rattle.cuts.proofs.cut_pair.Goals as goal
 

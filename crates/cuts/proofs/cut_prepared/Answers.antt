@@ -1,5 +1,3 @@
-use mathlib.Core.Path.{refl}
-use native.Mathlib.Omega.{arith}
 use Rattle.cuts.specs.Pair.{pair_of}
 use Rattle.cuts.proofs.cut_prepared.Goals as goal
 

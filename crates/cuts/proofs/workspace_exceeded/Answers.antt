@@ -1,5 +1,4 @@
-use native.Mathlib.Omega.{arith}
-use Rattle.cuts.specs.Pair.{products_most, shifted}
+use Rattle.cuts.specs.Pair.{shifted}
 use Rattle.cuts.proofs.workspace_exceeded.Goals as goal
 
 pub returns : goal.returns
