@@ -1,5 +1,3 @@
--- What one record of a run does, the laws by which the functions meet it, what is promised of it, and document 01's examples.
+-- What one record of a run does, and what is promised of it.
 pub mod Session
-pub mod Steps
 pub mod Promises
-pub mod Worked

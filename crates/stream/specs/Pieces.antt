@@ -16,7 +16,7 @@ use Rattle.lines.specs.Text.{line_text, line_room, written, written_length}
 use Rattle.lines.specs.Writing.{length_line}
 use Rattle.session.specs.declared.Session.{Session}
 use Rattle.session.specs.Session.{Left, stop_line, obeys, step_of}
-use Rattle.session.specs.Promises.{promised}
+use Rattle.session.proofs.Laws.Promises.{promised}
 use Rattle.stream.specs.Output.{stops, lines_from, text_of_lines}
 use Rattle.stream.specs.Feeding.{progress, record_done, Feeding, feeding, in_progress, with_byte, if_whole, can_take, takes, fed, run_of, Ending, ended, text_so_far, to_come, Underway}
 use Rattle.stream.specs.Turns.{taking}

@@ -3,7 +3,7 @@ use Rattle.model.specs.Answers.{view_applied}
 use Rattle.model.specs.Slots.{held}
 use Rattle.model.specs.Calls.{gate_call}
 use Rattle.session.specs.Session.{gate_step}
-use Rattle.session.specs.Steps.{answered}
+use Rattle.session.proofs.Laws.Steps.{answered}
 use Rattle.session.proofs.gate_record.Goals as goal
 
 pub returns : goal.returns

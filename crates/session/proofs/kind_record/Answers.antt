@@ -3,7 +3,7 @@ use mathlib.Core.List.{List}
 use Prim.Native.Nat.{ℕ}
 use lib.Ieee.{Float}
 use Rattle.session.specs.Session.{Left, kind_step}
-use Rattle.session.specs.Steps.{no_kind}
+use Rattle.session.proofs.Laws.Steps.{no_kind}
 use Rattle.session.proofs.kind_record.Goals as goal
 
 pub returns-in-1 : goal.returns-in-1

@@ -1,6 +1,6 @@
 use Rattle.model.specs.Answers.{view_measured}
 use Rattle.session.specs.Session.{measure_step}
-use Rattle.session.specs.Steps.{answered}
+use Rattle.session.proofs.Laws.Steps.{answered}
 use Rattle.session.proofs.measure_record.Goals as goal
 
 pub returns : goal.returns

@@ -1,4 +1,4 @@
-use Rattle.session.specs.Steps.{refused_start}
+use Rattle.session.proofs.Laws.Steps.{refused_start}
 use Rattle.session.proofs.new_session.Goals as goal
 
 pub returns : goal.returns

@@ -1,6 +1,6 @@
 use Rattle.model.specs.Answers.{view_projected}
 use Rattle.session.specs.Session.{projection_step}
-use Rattle.session.specs.Steps.{answered}
+use Rattle.session.proofs.Laws.Steps.{answered}
 use Rattle.session.proofs.projection_record.Goals as goal
 
 pub returns : goal.returns

@@ -1,6 +1,6 @@
 use Rattle.model.specs.Answers.{view_answer}
 use Rattle.session.specs.Session.{reset_step}
-use Rattle.session.specs.Steps.{answered}
+use Rattle.session.proofs.Laws.Steps.{answered}
 use Rattle.session.proofs.reset_record.Goals as goal
 
 pub returns : goal.returns

@@ -1,5 +1,5 @@
 use Rattle.session.specs.Session.{start_step}
-use Rattle.session.specs.Steps.{opened}
+use Rattle.session.proofs.Laws.Steps.{opened}
 use Rattle.session.proofs.start_record.Goals as goal
 
 pub returns : goal.returns

@@ -1,5 +1,5 @@
 use mathlib.Core.Path.{sym, ◌∙◌}
-use Rattle.session.specs.Steps.{unread, out_of_turn, stepped}
+use Rattle.session.proofs.Laws.Steps.{unread, out_of_turn, stepped}
 use Rattle.session.proofs.step.Goals as goal
 
 pub returns-then-read-ne0 : goal.returns-then-read-ne0
