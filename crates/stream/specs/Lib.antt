@@ -1,7 +1,6 @@
--- What is printed for a whole input, and what a piece of it does; the laws by which the functions meet it, document 01's inputs, and what is promised of it.
+-- What is printed for a whole input, and what a piece of it does; document 01's inputs, and what is promised of it.
 pub mod Output
 pub mod Feeding
-pub mod Turns
 pub mod Pieces
 pub mod Marked
 pub mod Promises
