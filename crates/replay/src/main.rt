@@ -3,7 +3,7 @@
 // A stream in the list is its length in bytes, 4 bytes least first, and its records.
 #![tactic(auto)]
 
-ghost use Rattle.std.specs.Prelude.{◌≡◌, ◌≤◌, ◌<◌, length};
+ghost use Rattle.std.specs.Prelude.{◌≡◌, ◌≤◌, ◌<◌, length, IfOk};
 
 use bytes_le::u32_at;
 use lines::{Line, write_line};
@@ -109,7 +109,9 @@ fn replay_stream<W: Write>(writer: &mut W, bytes: &[u8]) -> io::Result<()> {
 // ---- the list
 
 // Reads until the slice is full or the input ends, and answers how many bytes came.
-fn read_full<R: Read>(reader: &mut R, bytes: &mut [u8]) -> io::Result<usize> {
+fn read_full<R: Read>(reader: &mut R, bytes: &mut [u8]) -> io::Result<usize>
+    ensures { IfOk result (λ n. n ≤ length bytes.new) }
+{
     let mut done: usize = 0;
     while done < bytes.len() {
         let got = reader.read(&mut bytes[done..])?;
