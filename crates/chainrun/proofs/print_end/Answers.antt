@@ -1,6 +1,6 @@
 use Rattle.std.proofs.Common.{◌≤◌, length, sym, subst}
 use Rattle.stream.specs.Feeding.{Ending}
-use Rattle.stream.specs.Turns.{ended_within}
+use Rattle.stream.proofs.Laws.Turns.{ended_within}
 use Rattle.chainrun.proofs.print_end.Goals as goal
 
 pub print_front-requires : goal.print_front-requires

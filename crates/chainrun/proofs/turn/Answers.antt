@@ -1,6 +1,6 @@
 use Rattle.std.proofs.Common.{◌≤◌, length, sym, subst, arith}
 use Rattle.stream.specs.Feeding.{Feeding}
-use Rattle.stream.specs.Turns.{fed_within}
+use Rattle.stream.proofs.Laws.Turns.{fed_within}
 use Rattle.chainrun.proofs.turn.Goals as goal
 
 pub print_front-requires : goal.print_front-requires
