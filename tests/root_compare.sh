@@ -3,7 +3,7 @@
 #   root_compare.sh [PATTERNS [PAIRS [SEED]]]
 set -eu
 cd "$(dirname "$0")/.."
-[ -f crates/root_export/out/libroot_export.a ] || (cd crates/root_export && rt lib)
+(cd crates/root_export && rt lib > out/lib.log 2>&1) || { tail -n 20 crates/root_export/out/lib.log; exit 1; }
 mkdir -p target/tests
 gcc -O2 -Wall -Wextra -o target/tests/root_compare tests/root_compare.c crates/root_export/out/libroot_export.a -lm
 gcc -shared -o target/tests/libroot_export.so -Wl,--whole-archive crates/root_export/out/libroot_export.a -Wl,--no-whole-archive -lm

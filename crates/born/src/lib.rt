@@ -9,7 +9,7 @@ ghost use Rattle.std.specs.Float.{binary64};
 ghost use Rattle.complex.specs.Complex.{mul_c, zero_c};
 ghost use Rattle.complex.specs.Numbers.{count, at, store};
 ghost use Rattle.model.specs.Slots.{filled};
-ghost use Rattle.model.specs.Born.{bit_of, weight as weightOf, rescale, projected_site, reset_site};
+ghost use Rattle.model.specs.Born.{bit_of, weight as weight_of, rescale, projected_site, reset_site};
 ghost use Rattle.born.specs.Kept.{kept_pair, kept_site};
 
 use columns::{clear_from, sum_squares};
@@ -28,7 +28,7 @@ fn row_at(o: bool, br: usize) -> usize
 pub fn weight(site: &[f64], bl: usize, br: usize, o: bool) -> f64
     requires br_bound { bl * (2 * br) ≤ count site.now }
     requires bl_bound { (bl ≤ 128) × (br ≤ 128) }
-    ensures { result ≡ weightOf bl br site.now o }
+    ensures { result ≡ weight_of bl br site.now o }
 {
     let row = row_at(o, br);
     let mut sum = 0.0;
@@ -102,7 +102,7 @@ fn keep(slot: &mut [f64], bl: usize, br: usize, from: bool, to: bool, w: f64)
 pub fn project(slot: &mut [f64], bl: usize, br: usize, o: bool, w: f64)
     requires br_bound { bl * (2 * br) ≤ count slot.old }
     requires bl_bound { (bl ≤ 128) × (br ≤ 128) }
-    requires w_value { w ≡ weightOf bl br slot.old o }
+    requires w_value { w ≡ weight_of bl br slot.old o }
     ensures { slot.new ≡ filled (length slot.old) (projected_site bl br o slot.old) }
 {
     keep(slot, bl, br, o, o, w);
@@ -112,7 +112,7 @@ pub fn project(slot: &mut [f64], bl: usize, br: usize, o: bool, w: f64)
 pub fn reset(slot: &mut [f64], bl: usize, br: usize, o: bool, w: f64)
     requires br_bound { bl * (2 * br) ≤ count slot.old }
     requires bl_bound { (bl ≤ 128) × (br ≤ 128) }
-    requires w_value { w ≡ weightOf bl br slot.old o }
+    requires w_value { w ≡ weight_of bl br slot.old o }
     ensures { slot.new ≡ filled (length slot.old) (reset_site bl br o slot.old) }
 {
     keep(slot, bl, br, o, false, w);

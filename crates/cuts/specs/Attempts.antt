@@ -71,30 +71,30 @@ recorded_by c k x r =
     cond r.stored (recorded_cut c k r.chi (shares_of r.share) (cond x.maintained (At (weight_site x.side k)) c.center)) c
 
 module _ (gate : List (List Complex)) (d : ℕ) (epsilon clamp : Float) (k : ℕ) (b : Bonds) (c : Chain) (g : GoesBy d epsilon clamp k b c) (store : List Float) where
-  abbrev pairBy : Svd
-  pairBy = pair_svd clamp b.left b.mid b.right gate (slot_of d k store) (slot_of d (k + 1) store)
+  abbrev pair_by : Svd
+  pair_by = pair_svd clamp b.left b.mid b.right gate (slot_of d k store) (slot_of d (k + 1) store)
 
-  pair_by : pairBy ≡ pair_of gate k (held c store)
-  pair_by = rw (g.least, g.cap, g.bonds)
+  pair_by_lem : pair_by ≡ pair_of gate k (held c store)
+  pair_by_lem = rw (g.least, g.cap, g.bonds)
 
   -- r is the decomposition, and w begins with it
-  module _ (maintained : Bool) (side : WeightSide) (w : List Float) (r : Decomposed) (m : Made b.left b.right pairBy w r) where
+  module _ (maintained : Bool) (side : WeightSide) (w : List Float) (r : Decomposed) (m : Made b.left b.right pair_by w r) where
     abbrev Leaving : Applied → Bool → State → Type 0
     Leaving a again t = Leaves a again t (reason_in gate k (held c store)) (cut_with gate k maintained (prepared side (held c store)))
 
     pub cut_nan : r.nan ≡ true → Leaving (applied.Refused 7) false (held c store)
     unfolding cut_with
-    cut_nan z = let y : nan_in (pair_of gate k (held c store)) ≡ true = ap nan_in (sym pair_by) ∙ sym m.nan ∙ z in rw y (record { answers = refl; repeated = refl })
+    cut_nan z = let y : nan_in (pair_of gate k (held c store)) ≡ true = ap nan_in (sym pair_by_lem) ∙ sym m.nan ∙ z in rw y (record { answers = refl; repeated = refl })
 
     module _ (z : r.nan ≡ false) (kept : Kept) (h : KeptOf epsilon d (values (standing r.shape w r.order)) kept) where
       abbrev chi : ℕ
       chi = rank c.svd_epsilon c.max_bond_dim (values (pair_of gate k (held c store)))
 
       not_nan : nan_in (pair_of gate k (held c store)) ≡ false
-      not_nan = ap nan_in (sym pair_by) ∙ sym m.nan ∙ z
+      not_nan = ap nan_in (sym pair_by_lem) ∙ sym m.nan ∙ z
 
       whole : standing r.shape w r.order ≡ pair_of gate k (held c store)
-      whole = m.whole ∙ pair_by
+      whole = m.whole ∙ pair_by_lem
 
       kept_of : KeptOf c.svd_epsilon c.max_bond_dim (values (pair_of gate k (held c store))) kept
       kept_of = rw (whole, g.tolerance, g.cap) at h

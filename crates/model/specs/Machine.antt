@@ -23,7 +23,7 @@ fresh = record { bits = λ q. false; phase = one }
 -- ---- what it refuses: 2, 4 and 5, tried in that order; 0 where none refuses
 
 abbrev pub too_short : ℕ → ℕ → ℕ → ℕ → Bool
-too_short n d storeLength workLength = ltb storeLength (4 * n * (d * d)) || ltb workLength (80 * (d * d) + 16 * d)
+too_short n d store_length work_length = ltb store_length (4 * n * (d * d)) || ltb work_length (80 * (d * d) + 16 * d)
 
 abbrev pub no_number : Complex → Bool
 no_number z = not (finite z.re) || not (finite z.im)

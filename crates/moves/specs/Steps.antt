@@ -77,30 +77,30 @@ module _ (d k : ℕ) (store : List Float) (room : (k + 1) * slot_room d + slot_r
   pub second_slot : length (slot_of d (k + 1) store) ≡ slot_room d
   second_slot = length_part ((k + 1) * slot_room d) ((k + 1) * slot_room d + slot_room d) store (omega arith) room ∙ omega arith
 
-  abbrev firstPut : List Float → List Float
-  firstPut ys = put (k * slot_room d) (k * slot_room d + slot_room d) store ys
+  abbrev first_put : List Float → List Float
+  first_put ys = put (k * slot_room d) (k * slot_room d + slot_room d) store ys
 
   module _ (ys : List Float) (l : length ys ≡ length (slot_of d k store)) where
-    pub first_kept : length (firstPut ys) ≡ length store
+    pub first_kept : length (first_put ys) ≡ length store
     first_kept = length_put (k * slot_room d) (k * slot_room d + slot_room d) store (omega arith) (omega arith) ys (l ∙ first_slot ∙ omega arith)
 
-    pub second_after : length (slot_of d (k + 1) (firstPut ys)) ≡ slot_room d
-    second_after = length_part ((k + 1) * slot_room d) ((k + 1) * slot_room d + slot_room d) (firstPut ys) (omega arith) (omega (arith, first_kept)) ∙ omega arith
+    pub second_after : length (slot_of d (k + 1) (first_put ys)) ≡ slot_room d
+    second_after = length_part ((k + 1) * slot_room d) ((k + 1) * slot_room d + slot_room d) (first_put ys) (omega arith) (omega (arith, first_kept)) ∙ omega arith
 
-    pub second_in : (k + 1) * slot_room d + slot_room d ≤ length (firstPut ys)
+    pub second_in : (k + 1) * slot_room d + slot_room d ≤ length (first_put ys)
     second_in = rw first_kept room
 
-    pub second_kept : (zs : List Float) → length zs ≡ length (slot_of d (k + 1) (firstPut ys)) → length (put ((k + 1) * slot_room d) ((k + 1) * slot_room d + slot_room d) (firstPut ys) zs) ≡ length store
-    second_kept zs n = length_put ((k + 1) * slot_room d) ((k + 1) * slot_room d + slot_room d) (firstPut ys) (omega arith) (omega (arith, first_kept)) zs (n ∙ second_after ∙ omega arith) ∙ first_kept
+    pub second_kept : (zs : List Float) → length zs ≡ length (slot_of d (k + 1) (first_put ys)) → length (put ((k + 1) * slot_room d) ((k + 1) * slot_room d + slot_room d) (first_put ys) zs) ≡ length store
+    second_kept zs n = length_put ((k + 1) * slot_room d) ((k + 1) * slot_room d + slot_room d) (first_put ys) (omega arith) (omega (arith, first_kept)) zs (n ∙ second_after ∙ omega arith) ∙ first_kept
 
     -- both written, each filled up
-    pub pair_written : (zs u v : List Float) → ys ≡ filled (length (slot_of d k store)) u → zs ≡ filled (length (slot_of d (k + 1) (firstPut ys))) v
-        → put ((k + 1) * slot_room d) ((k + 1) * slot_room d + slot_room d) (firstPut ys) zs ≡ with_site d (k + 1) v (with_site d k u store)
+    pub pair_written : (zs u v : List Float) → ys ≡ filled (length (slot_of d k store)) u → zs ≡ filled (length (slot_of d (k + 1) (first_put ys))) v
+        → put ((k + 1) * slot_room d) ((k + 1) * slot_room d + slot_room d) (first_put ys) zs ≡ with_site d (k + 1) v (with_site d k u store)
     pair_written zs u v ey ez =
         let z : zs ≡ filled (slot_room d) v = ez ∙ ap (λ (n : ℕ). filled n v) second_after in
         let y : ys ≡ filled (slot_room d) u = ey ∙ ap (λ (n : ℕ). filled n u) first_slot in
-        ap (λ (t : List Float). put ((k + 1) * slot_room d) ((k + 1) * slot_room d + slot_room d) (firstPut ys) t) z
-        ∙ ap (λ (t : List Float). put ((k + 1) * slot_room d) ((k + 1) * slot_room d + slot_room d) (firstPut t) (filled (slot_room d) v)) y
+        ap (λ (t : List Float). put ((k + 1) * slot_room d) ((k + 1) * slot_room d + slot_room d) (first_put ys) t) z
+        ∙ ap (λ (t : List Float). put ((k + 1) * slot_room d) ((k + 1) * slot_room d + slot_room d) (first_put t) (filled (slot_room d) v)) y
 
 -- ---- what the calls of a step ask for
 
@@ -137,7 +137,7 @@ module _ {d k bl bond br : ℕ} {store work : List Float} (p : Pair d k bl bond 
     right_filled = let z = fits_right in (omega arith, omega (arith, z.rank_most), rw (first_slot d k store p.store_room_lem) (omega (arith, z.site_in)), le_refl _, z.columns_in)
 
     pub right_absorbed : (ys : List Float) → length ys ≡ length (slot_of d k store)
-        → ((bl ≤ 128) × (bond ≤ 128) × (br ≤ 128) × (chi ≤ 128)) × ((bond * (2 * bl) + chi * bond ≤ count (take q work)) × (bond * (2 * br) ≤ count (part q (q + 2 * (bond * (2 * br))) work)) × (2 * (chi * (2 * br)) ≤ length (slot_of d (k + 1) (firstPut d k store p.store_room_lem ys))))
+        → ((bl ≤ 128) × (bond ≤ 128) × (br ≤ 128) × (chi ≤ 128)) × ((bond * (2 * bl) + chi * bond ≤ count (take q work)) × (bond * (2 * br) ≤ count (part q (q + 2 * (bond * (2 * br))) work)) × (2 * (chi * (2 * br)) ≤ length (slot_of d (k + 1) (first_put d k store p.store_room_lem ys))))
     right_absorbed ys l =
         let z = fits_right in
         ((omega arith, omega arith, omega arith, z.rank_most), (z.rows_in, rw (length_part q (q + 2 * (bond * (2 * br))) work (omega arith) (omega (arith, z.copy_in))) (omega arith), rw (second_after d k store p.store_room_lem ys l) (omega (arith, z.neighbour_in))))
@@ -152,7 +152,7 @@ module _ {d k bl bond br : ℕ} {store work : List Float} (p : Pair d k bl bond 
         ((omega arith, omega arith, omega arith, z.rank_most), (z.rows_in, rw (length_part q (q + 2 * (2 * bl * bond)) work (omega arith) (omega (arith, z.copy_in))) (omega arith), rw (first_slot d k store p.store_room_lem) (omega (arith, z.neighbour_in))))
 
     pub left_filled : (ys : List Float) → length ys ≡ length (slot_of d k store)
-        → (chi ≤ 256) × (br ≤ 128) × (2 * (chi * (2 * br)) ≤ length (slot_of d (k + 1) (firstPut d k store p.store_room_lem ys))) × (2 * br ≤ 2 * br) × (chi * (2 * br) ≤ count (take q work))
+        → (chi ≤ 256) × (br ≤ 128) × (2 * (chi * (2 * br)) ≤ length (slot_of d (k + 1) (first_put d k store p.store_room_lem ys))) × (2 * br ≤ 2 * br) × (chi * (2 * br) ≤ count (take q work))
     left_filled ys l = let z = fits_left in (omega (arith, z.rank_most), omega arith, rw (second_after d k store p.store_room_lem ys l) (omega (arith, z.site_in)), le_refl _, z.columns_in)
 
 -- ---- the factored list at the front of the work slice
@@ -181,14 +181,14 @@ abbrev pub stored_left : ℕ → ℕ → ℕ → ℕ → ℕ → Kept → List F
 stored_left d k bl bond br f prev store = with_site d (k + 1) (vt_site f.rank br (λ g c. conj_c (q_at (2 * br) f c g))) (with_site d k (absorbed_left bl bond br f prev) store)
 
 -- A step, from what its calls leave: w after the factoring, w' with the neighbour's copy behind it, and `out`, the store as written.
-module _ (d k bl bond br chi q : ℕ) (w w' store out : List Float) (kept-front : take q w' ≡ take q w) where
+module _ (d k bl bond br chi q : ℕ) (w w' store out : List Float) (kept_front : take q w' ≡ take q w) where
   pub right_stepped : q ≡ factored_room (2 * bl) bond → chi ≤ min (2 * bl) bond → kept chi (take (factored_room (2 * bl) bond) w) ≡ factors_right d k bl bond store
       → part q (q + 2 * (bond * (2 * br))) w' ≡ take (2 * (bond * (2 * br))) (slot_of d (k + 1) store)
       → out ≡ stored_right d k bl bond br (kept chi (take q w')) (part q (q + 2 * (bond * (2 * br))) w') store
       → (chi ≡ (factors_right d k bl bond store).rank) × ((out ≡ stored_right d k bl bond br (factors_right d k bl bond store) (slot_of d (k + 1) store) store) × (chi ≤ bond))
   right_stepped e h f c o =
       let g = factors_right d k bl bond store in
-      let same : kept chi (take q w') ≡ g = ap (kept chi) (kept-front ∙ ap (λ (j : ℕ). take j w) e) ∙ f in (
+      let same : kept chi (take q w') ≡ g = ap (kept chi) (kept_front ∙ ap (λ (j : ℕ). take j w) e) ∙ f in (
         ap (λ (x : Kept). x.rank) f,
         (
           o ∙ ap (λ (x : Kept). stored_right d k bl bond br x (part q (q + 2 * (bond * (2 * br))) w') store) same ∙ ap (λ (x : List Float). stored_right d k bl bond br g x store) c
@@ -203,7 +203,7 @@ module _ (d k bl bond br chi q : ℕ) (w w' store out : List Float) (kept-front 
       → (chi ≡ (factors_left d k bond br store).rank) × ((out ≡ stored_left d k bl bond br (factors_left d k bond br store) (slot_of d k store) store) × (chi ≤ bond))
   left_stepped e h f c o =
       let g = factors_left d k bond br store in
-      let same : kept chi (take q w') ≡ g = ap (kept chi) (kept-front ∙ ap (λ (j : ℕ). take j w) e) ∙ f in (
+      let same : kept chi (take q w') ≡ g = ap (kept chi) (kept_front ∙ ap (λ (j : ℕ). take j w) e) ∙ f in (
         ap (λ (x : Kept). x.rank) f,
         (
           o ∙ ap (λ (x : Kept). stored_left d k bl bond br x (part q (q + 2 * (2 * bl * bond)) w') store) same ∙ ap (λ (x : List Float). stored_left d k bl bond br g x store) c

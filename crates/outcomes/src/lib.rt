@@ -10,7 +10,7 @@ ghost use Rattle.model.specs.declared.Measured.TheVariants as measured;
 ghost use Rattle.model.specs.declared.Projected.TheVariants as projected;
 ghost use Rattle.model.specs.Chain.{with_bits};
 ghost use Rattle.model.specs.Slots.{held, slot_of};
-ghost use Rattle.model.specs.Born.{weight as weightOf, projected_site, reset_site, weight_at, drawn_at, projected_at, reset_at, readied};
+ghost use Rattle.model.specs.Born.{weight as weight_of, projected_site, reset_site, weight_at, drawn_at, projected_at, reset_at, readied};
 ghost use Rattle.model.specs.Calls.{project_answer, flagged};
 ghost use Rattle.moves.specs.Ready.{Ready};
 ghost use Rattle.outcomes.specs.Placed.{Placed, Site};
@@ -61,7 +61,7 @@ fn with_flag(chain: Chain, flag: usize, b: bool) -> Chain
 // The weight of outcome o, of site k.
 fn site_weight(store: &[f64], d: usize, k: usize, bl: usize, br: usize, o: bool) -> f64
     requires { Site d k bl br store.now }
-    ensures { result ≡ weightOf bl br (slot_of d k store.now) o }
+    ensures { result ≡ weight_of bl br (slot_of d k store.now) o }
 {
     let slot = 4 * d * d;
     let a = k * slot;
@@ -81,7 +81,7 @@ fn project_slot(
     clamp: f64,
 )
     requires site { Site d k bl br store.old }
-    requires w_value { w ≡ weightOf bl br (slot_of d k store.old) o }
+    requires w_value { w ≡ weight_of bl br (slot_of d k store.old) o }
     ensures { store.new ≡ rewritten d k w clamp (projected_site bl br o (slot_of d k store.old)) store.old }
 {
     let slot = 4 * d * d;
@@ -105,7 +105,7 @@ fn reset_slot(
     clamp: f64,
 )
     requires site { Site d k bl br store.old }
-    requires w_value { w ≡ weightOf bl br (slot_of d k store.old) o }
+    requires w_value { w ≡ weight_of bl br (slot_of d k store.old) o }
     ensures { store.new ≡ rewritten d k w clamp (reset_site bl br o (slot_of d k store.old)) store.old }
 {
     let slot = 4 * d * d;

@@ -1,4 +1,4 @@
--- h * 2 ^ g units as a value (`units` of lib.Ieee, which from 2 ^ 1024 on is the infinity), and the bit pattern that it has. Assumes nothing.
+-- h * 2 ^ g units as a value (`units` of std's Float.Ieee, which from 2 ^ 1024 on is the infinity), and the bit pattern that it has. Assumes nothing.
 use Rattle.std.specs.Prelude.{◌≡◌, ℕ, ◌+◌, ◌*◌, ◌^◌, ◌<◌, ◌≤◌}
 
 -- b is the pattern of m * 2 ^ e units, a finite value's

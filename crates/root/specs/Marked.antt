@@ -1,4 +1,4 @@
--- Sizes by their bits, one row each, and one statement that covers them.
+-- Sizes by their bits, one row each. That all hold is one statement, `marked` of proofs/Laws.
 use Rattle.std.specs.Prelude.{ℕ, Bool, true, ◌&&◌, List, [], ◌∷◌, ◌==◌}
 use Rattle.std.specs.Float.{binary64}
 use Rattle.std.specs.Float.Ieee.{of_bits, to_bits}

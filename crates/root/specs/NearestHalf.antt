@@ -1,4 +1,4 @@
--- Half of a whole root, rounded to nearest, ties to even, and why that is the number of 53 binary digits nearest to half of the exact root. Nothing here is about floats. Assumes nothing.
+-- Half of a whole root, rounded to nearest, ties to even. That it is the number of 53 binary digits nearest to half of the exact root stands in proofs/Laws. Nothing here is about floats.
 use Rattle.std.specs.Prelude.{◌≡◌, ℕ, suc, ◌+◌, ◌/◌, ◌%◌, Bool, false, cond, ◌==◌}
 use Prim.Native.Nat.{Ordering}
 use Rattle.std.specs.Float.Ieee.{nearest}

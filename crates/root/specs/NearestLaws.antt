@@ -1,5 +1,4 @@
--- Laws of `Nearest`, for every exact square q: no two values are nearest, an exact root is, at a tie the even value is, past the largest value the infinity is, and the nearest value grows with q.
--- Assumes nothing.
+-- What the laws of `Nearest` are stated with: the value of a pattern up to a candidate's.
 use Rattle.std.specs.Prelude.{◌≡◌, ℕ, Float}
 use Rattle.std.specs.Float.{binary64}
 use Rattle.std.specs.Float.Ieee.{to_bits}

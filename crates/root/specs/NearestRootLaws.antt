@@ -1,4 +1,4 @@
--- `nearest_root q` is nearest to the root of q, for every q: with the whole root m of q in its units, twice m or one more is the whole root of 4 * q, and `half_nearest` says the rest. Assumes nothing.
+-- What an order of two numbers says of them, as the law of `nearest_root` uses it.
 use Rattle.std.specs.Prelude.{◌≡◌, ℕ, ◌<◌}
 use Prim.Native.Nat.{Ordering}
 

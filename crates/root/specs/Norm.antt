@@ -1,5 +1,5 @@
--- The size of a complex number (document 02, W5): the value nearest to the exact root of the sum of its parts' squares, and its special values.
--- That it is nearest is `norm_nearest` of `NormTheorems.antt`. Assumes nothing.
+-- The size of a complex number (document 02, W5): the value nearest to the exact root of the sum of its parts' squares.
+-- That it is nearest is `norm_nearest` of `proofs/Laws/NormTheorems.antt`; its special values stand in `proofs/Laws/Norm.antt`.
 use Rattle.std.specs.Prelude.{ℕ, ◌+◌, ◌*◌, Bool, true, false, cond, ◌||◌, Float}
 use Rattle.std.specs.Float.Ieee.{nan, is_nan}
 use Rattle.std.specs.Float.{inf, fin}

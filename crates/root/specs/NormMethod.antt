@@ -1,5 +1,4 @@
--- What `finite_norm` does: four times the sum of two squares in units of the larger one's last digit squared, cut to a whole number, and half of its root; and why, from 27 exponents apart on, the larger part is the answer.
--- Both are nearest, and so is `nearest_root`, so they are equal. Assumes nothing.
+-- What `finite_norm` does: four times the sum of two squares in units of the larger one's last digit squared, cut to a whole number, and half of its root. That this, and from 27 exponents apart on the larger part, is `nearest_root` stands in proofs/Laws.
 use Rattle.std.specs.Prelude.{ℕ, ◌+◌, ◌*◌, ◌/◌, ◌%◌, ◌^◌, Bool, nat_lt}
 
 -- the square of twice a significand

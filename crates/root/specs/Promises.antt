@@ -1,4 +1,4 @@
--- What is promised of the root and of the size, one field each, and the proofs. docs/PROMISES.md names these fields.
+-- What is promised of the root and of the size, one field each; `promised` of proofs/Laws proves them. docs/PROMISES.md names these fields.
 use Rattle.std.specs.Prelude.{◌≡◌, ℕ, ◌-◌, ◌*◌, ◌^◌, ◌<◌, ◌≤◌, Bool, true, false, not, ◌||◌, T, ◌↔◌, ℤ, pos, from_bits, is_nan, Float}
 use Rattle.std.specs.Float.{nan, inf, fin, binary64}
 use Rattle.std.specs.Float.Ieee.{fits, lt}

@@ -112,14 +112,14 @@ module _ (gate : List (List Complex)) (near n : ℕ) (s : State) where
   run_in x e z =
       sym (run_then (map swap_step (down_to near n)) (gate_step gate near ∷ []) s ∙ ap (λ (r : Ran). follow r (run_steps (gate_step gate near ∷ []))) (sym e) ∙ follow_on x (run_steps (gate_step gate near ∷ [])) z ∙ run_gate gate near x.state)
 
-  abbrev routedBy : Answered
-  routedBy = answered_by (routed_reason gate near n s) (routed_gate gate near n s)
+  abbrev routed_by : Answered
+  routed_by = answered_by (routed_reason gate near n s) (routed_gate gate near n s)
 
-  pub gate_out : (x : Ran) → x ≡ swaps_down near n s → (x.refused ≡ 0 → ⊥) → answered (applied.Refused x.refused) x.state ≡ routedBy
+  pub gate_out : (x : Ran) → x ≡ swaps_down near n s → (x.refused ≡ 0 → ⊥) → answered (applied.Refused x.refused) x.state ≡ routed_by
   gate_out x e z =
       ap (λ (a : Applied). answered a x.state) (applied_refused (routed_reason gate near n s) x.refused z) ∙ ap (answered_by (routed_reason gate near n s)) (run_out x e z)
 
-  pub gate_on_lem : (x : Ran) (y : Answered) → x ≡ swaps_down near n s → x.refused ≡ 0 → y ≡ answered_by (adjacent_reason gate near x.state) (adjacent gate near x.state) → y ≡ routedBy
+  pub gate_on_lem : (x : Ran) (y : Answered) → x ≡ swaps_down near n s → x.refused ≡ 0 → y ≡ answered_by (adjacent_reason gate near x.state) (adjacent gate near x.state) → y ≡ routed_by
   unfolding routed_reason
   gate_on_lem x y e z f = f ∙ (λ i. answered_by (adjacent_reason gate near (e i).state) (run_in x e z i))
 
@@ -135,7 +135,7 @@ module _ (gate : List (List Complex)) (q0 q1 : ℕ) (s : State) (p q : ℕ) (e :
   reason_routed near m g eg en em = rw (eg, en, em, e, f)
 
   pub run_between : (near far : ℕ) (g : List (List Complex)) → g ≡ cond (ltb p q) gate (swap_gate_qubits gate) → near ≡ min p q → far ≡ max p q
-      → routedBy g near (far - (near + 1)) s ≡ answered_by (gate_reason gate q0 q1 s) (gate_run gate q0 q1 s)
+      → routed_by g near (far - (near + 1)) s ≡ answered_by (gate_reason gate q0 q1 s) (gate_run gate q0 q1 s)
   run_between near far g eg en ef =
       let em : far - (near + 1) ≡ max p q - min p q - 1 = omega arith in
       λ i. answered_by (reason_routed near (far - (near + 1)) g eg en em i) (run_routed near (far - (near + 1)) g eg en em i)

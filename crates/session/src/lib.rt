@@ -260,6 +260,7 @@ fn turned_away(session: Session) -> Stepped
 }
 
 // Whether a record of this kind may come now: a start as long as none was accepted, and anything else once one was.
+#[tactic(auto, unfolding(crate::specs::Session::in_turn))]
 fn in_turn(started: bool, kind: u16) -> bool
     ensures { result ≡ in_turn started kind }
 {

@@ -1,4 +1,4 @@
--- What is printed for document 01's inputs: one list, and one statement that covers it. A row has the text that the definitions compute, and the text that the document says it is, as ASCII codes.
+-- What is printed for document 01's inputs: one list. That every row holds is one statement, `marked` of proofs/Laws. A row has the text that the definitions compute, and the text that the document says it is, as ASCII codes.
 use Rattle.std.specs.Prelude.{ℕ, List, [], ◌∷◌, ◌++◌, replicate, take}
 use Rattle.model.specs.Statements.Marked.{Row, wholes}
 use Rattle.record.specs.Worked.{whole_case}

@@ -1,4 +1,4 @@
--- Fed piece by piece, an input gives the text that is defined for the whole of it. Laws alone.
+-- Fed piece by piece, an input gives the text that is defined for the whole of it: what that law is stated with.
 use Rattle.std.specs.Prelude.{ℕ, ◌+◌, ◌-◌, ◌≤◌, ◌≡◌, length, take, drop}
 use mathlib.Core.List.{List, ◌∷◌, ◌++◌}
 use Rattle.lines.specs.Text.{line_room}

@@ -104,8 +104,8 @@ apart_left : {n d lo hi : ℕ} {x y : List Float} → Apart n d lo hi x y → St
 apart_left {n = n} {d = d} a = let e : store_room n d ≡ 4 * n * d * d = omega arith in record { slots = a.slots; past = rw (← e) a.past; long = a.long }
 
 module _ {A : Type 0} (view : A → View) (s : State) (work : List Float) (near far : ℕ) where
-  abbrev sitesApart : State → Type 0
-  sitesApart t = Apart s.chain.num_qubits s.chain.max_bond_dim (lowest s.chain.center near) (highest s.chain.center s.chain.num_qubits far) s.store t.store
+  abbrev SitesApart : State → Type 0
+  SitesApart t = Apart s.chain.num_qubits s.chain.max_bond_dim (lowest s.chain.center near) (highest s.chain.center s.chain.num_qubits far) s.store t.store
 
   -- refused before its run, a call leaves everything
   turned_leaves : (a : A) → Early (view a).number → Leaves s work near far (view a).number (after a s work)
@@ -115,7 +115,7 @@ module _ {A : Type 0} (view : A → View) (s : State) (work : List Float) (near 
     store_left = record { slots = λ j o. refl; past = refl; long = refl };
   }
 
-  run_leaves : (a : A) (t : State) → Late (view a).number → work_room s.chain.max_bond_dim ≤ length work → sitesApart t → Leaves s work near far (view a).number (after a t (cleared s.chain work))
+  run_leaves : (a : A) (t : State) → Late (view a).number → work_room s.chain.max_bond_dim ≤ length work → SitesApart t → Leaves s work near far (view a).number (after a t (cleared s.chain work))
   run_leaves a t l room x = record {
     work_left = work_cleared s.chain (view a).number work l room;
     unaltered = λ e. absurd (early_late e l);
@@ -123,7 +123,7 @@ module _ {A : Type 0} (view : A → View) (s : State) (work : List Float) (near 
   }
 
   pub call_leaves : (k : ℕ) (a back : A) (t : State) → k ≤ 5 → (view back).number ≡ k → Late (view a).number
-      → (eqb k 0 ≡ true → (work_room s.chain.max_bond_dim ≤ length work) × sitesApart t)
+      → (eqb k 0 ≡ true → (work_room s.chain.max_bond_dim ≤ length work) × SitesApart t)
       → (let z = cond (eqb k 0) (after a t (cleared s.chain work)) (after back s work) in Leaves s work near far (view z.answer).number z)
   call_leaves k a back t small e l accepted =
       by_test (λ (z : After A). Leaves s work near far (view z.answer).number z) (eqb k 0) _ _

@@ -90,47 +90,47 @@ module _ (e : ℕ) where
       from Unknown = established_under k s
       from (At j) = moved_under j k s
 
-  abbrev preparedUnder : Prepared → Prepared
-  preparedUnder p = prepared p.side (under e p.state)
+  abbrev prepared_under : Prepared → Prepared
+  prepared_under p = prepared p.side (under e p.state)
 
-  prepared_for_under : (k : ℕ) (s : State) → prepared_for k (under e s) ≡ preparedUnder (prepared_for k s)
-  prepared_for_under k s = mapped preparedUnder (keeps_centre k s) (λ t. from s.chain.center) refl
+  prepared_for_under : (k : ℕ) (s : State) → prepared_for k (under e s) ≡ prepared_under (prepared_for k s)
+  prepared_for_under k s = mapped prepared_under (keeps_centre k s) (λ t. from s.chain.center) refl
     where
-      from : (at : Center) → prepared_on k at (under e s) ≡ preparedUnder (prepared_on k at s)
+      from : (at : Center) → prepared_on k at (under e s) ≡ prepared_under (prepared_on k at s)
       from Unknown = ap (prepared Right) (established_under k s)
-      from (At j) = mapped preparedUnder (leb j k) (λ t. ap (prepared Right) (moved_under j k s)) (ap (prepared Left) (moved_under j (k + 1) s))
+      from (At j) = mapped prepared_under (leb j k) (λ t. ap (prepared Right) (moved_under j k s)) (ap (prepared Left) (moved_under j (k + 1) s))
 
   -- ---- a cut, which reads it in a test that fails from 63 on, and a run of cuts
 
-  abbrev triedUnder : Tried → Tried
-  triedUnder t = tried t.refused t.again (under e t.state)
+  abbrev tried_under : Tried → Tried
+  tried_under t = tried t.refused t.again (under e t.state)
 
-  abbrev ranUnder : Ran → Ran
-  ranUnder r = ran r.refused (under e r.state)
+  abbrev ran_under : Ran → Ran
+  ran_under r = ran r.refused (under e r.state)
 
-  cut_with_under : (g : List (List Complex)) (k : ℕ) (maintained : Bool) (p : Prepared) → cut_with g k maintained (preparedUnder p) ≡ triedUnder (cut_with g k maintained p)
+  cut_with_under : (g : List (List Complex)) (k : ℕ) (maintained : Bool) (p : Prepared) → cut_with g k maintained (prepared_under p) ≡ tried_under (cut_with g k maintained p)
   unfolding cut_with
   cut_with_under g k maintained p =
       let d = pair_of g k p.state in
-      mapped triedUnder (any_nan d.wide (raw_value d)) (λ t. refl) (mapped triedUnder (not maintained && resolvable (values d) (rank_of p.state d)) (λ t. refl) refl)
+      mapped tried_under (any_nan d.wide (raw_value d)) (λ t. refl) (mapped tried_under (not maintained && resolvable (values d) (rank_of p.state d)) (λ t. refl) refl)
 
   attempt_reason_under : (g : List (List Complex)) (k : ℕ) (s : State) → attempt_reason g k (under e s) ≡ attempt_reason g k s
   attempt_reason_under g k s = ap (λ (p : Prepared). reason_in g k p.state) (prepared_for_under k s)
 
   module _ (wide : 63 ≤ e) where
-    attempt_under : (g : List (List Complex)) (k : ℕ) (s : State) → Sound s.chain → 63 ≤ s.chain.workspace_exponent → k + 1 < s.chain.num_qubits → attempt g k (under e s) ≡ triedUnder (attempt g k s)
+    attempt_under : (g : List (List Complex)) (k : ℕ) (s : State) → Sound s.chain → 63 ≤ s.chain.workspace_exponent → k + 1 < s.chain.num_qubits → attempt g k (under e s) ≡ tried_under (attempt g k s)
     unfolding attempt
     attempt_under g k s h wide' inside =
         rw (le-ltb _ _ (workspace_enough k s h inside e wide), le-ltb _ _ (workspace_enough k s h inside s.chain.workspace_exponent wide'), prepared_for_under k s) (cut_with_under g k (keeps_centre k s) (prepared_for k s))
 
-    adjacent_under : (g : List (List Complex)) (k : ℕ) (s : State) → Sound s.chain → 63 ≤ s.chain.workspace_exponent → k + 1 < s.chain.num_qubits → adjacent g k (under e s) ≡ ranUnder (adjacent g k s)
+    adjacent_under : (g : List (List Complex)) (k : ℕ) (s : State) → Sound s.chain → 63 ≤ s.chain.workspace_exponent → k + 1 < s.chain.num_qubits → adjacent g k (under e s) ≡ ran_under (adjacent g k s)
     unfolding adjacent
     adjacent_under g k s h wide' inside =
         let t = (attempt g k s).state in
         let x = attempt_keeps g k s h inside in
         let y = narrowed_keeps (established_narrowed k t x.sound (omega (arith, x.qubits))) in
         let second = attempt_under g k (established k t) y.sound (omega (arith, x.exponent, y.exponent)) (omega (arith, x.qubits, y.qubits)) in
-        rw (attempt_under g k s h wide' inside, established_under k t, second) (mapped ranUnder (attempt g k s).again (λ a. refl) refl)
+        rw (attempt_under g k s h wide' inside, established_under k t, second) (mapped ran_under (attempt g k s).again (λ a. refl) refl)
 
     adjacent_reason_under : (g : List (List Complex)) (k : ℕ) (s : State) → Sound s.chain → 63 ≤ s.chain.workspace_exponent → k + 1 < s.chain.num_qubits → adjacent_reason g k (under e s) ≡ adjacent_reason g k s
     unfolding adjacent_reason
@@ -138,20 +138,20 @@ module _ (e : ℕ) where
         let t = (attempt g k s).state in
         rw (attempt_under g k s h wide' inside, established_under k t, attempt_reason_under g k (established k t), attempt_reason_under g k s)
 
-    stepped_under : (x : Step) (s : State) → Sound s.chain → 63 ≤ s.chain.workspace_exponent → x.site + 1 < s.chain.num_qubits → stepped x (under e s) ≡ ranUnder (stepped x s)
+    stepped_under : (x : Step) (s : State) → Sound s.chain → 63 ≤ s.chain.workspace_exponent → x.site + 1 < s.chain.num_qubits → stepped x (under e s) ≡ ran_under (stepped x s)
     unfolding stepped
     stepped_under x s h wide' inside =
         let r = adjacent x.gate x.site s in
         rw (adjacent_under x.gate x.site s h wide' inside)
-        (mapped ranUnder (eqb r.refused 0) (λ t. ap (λ (c : Chain). ran 0 (held c r.state.store)) (mapped (λ (c : Chain). with_exponent c e) x.relabels (λ l. refl) refl)) refl)
+        (mapped ran_under (eqb r.refused 0) (λ t. ap (λ (c : Chain). ran 0 (held c r.state.store)) (mapped (λ (c : Chain). with_exponent c e) x.relabels (λ l. refl) refl)) refl)
 
-    run_steps_under : (xs : List Step) (s : State) → Sound s.chain → 63 ≤ s.chain.workspace_exponent → Inside s.chain.num_qubits xs → run_steps xs (under e s) ≡ ranUnder (run_steps xs s)
+    run_steps_under : (xs : List Step) (s : State) → Sound s.chain → 63 ≤ s.chain.workspace_exponent → Inside s.chain.num_qubits xs → run_steps xs (under e s) ≡ ran_under (run_steps xs s)
     unfolding run_steps
     run_steps_under [] s h wide' inside = refl
     run_steps_under (x ∷ xs) s h wide' inside =
         let y = stepped_keeps x s h inside.0 in
         rw (stepped_under x s h wide' inside.0)
-        (mapped ranUnder (eqb (stepped x s).refused 0) (λ t. run_steps_under xs (stepped x s).state y.sound (omega (arith, y.exponent)) (rw y.qubits inside.1)) refl)
+        (mapped ran_under (eqb (stepped x s).refused 0) (λ t. run_steps_under xs (stepped x s).state y.sound (omega (arith, y.exponent)) (rw y.qubits inside.1)) refl)
 
     reason_under : (g : List (List Complex)) (q0 q1 : ℕ) (s : State) → Sound s.chain → 63 ≤ s.chain.workspace_exponent → Inside s.chain.num_qubits (gate_steps s q0 q1 g) → gate_reason g q0 q1 (under e s) ≡ gate_reason g q0 q1 s
     unfolding gate_reason
@@ -169,19 +169,19 @@ module _ (e : ℕ) where
   clamped_under : (k : ℕ) (o : Bool) (site : List Float) (s : State) → unless_clamped k o site (under e s) ≡ under e (unless_clamped k o site s)
   clamped_under k o site s = mapped (under e) (le (weight_at k o s) s.chain.norm_clamp_min) (λ t. refl) refl
 
-  abbrev afterUnder : {A : Type 0} → After A → After A
-  afterUnder a = after a.answer (under e (left a)) a.work
+  abbrev after_under : {A : Type 0} → After A → After A
+  after_under a = after a.answer (under e (left a)) a.work
 
   module _ (wide : 63 ≤ e) (byte : e ≤ 255) (s : State) (wide' : 63 ≤ s.chain.workspace_exponent) (byte' : s.chain.workspace_exponent ≤ 255) where
     same : sound (under e s).chain ≡ sound s.chain
     same = sound_same e s.chain byte byte'
 
-    gate_under : (work : List Float) (q0 q1 : ℕ) (g : List (List Complex)) → gate_call (under e s) work q0 q1 g ≡ afterUnder (gate_call s work q0 q1 g)
+    gate_under : (work : List Float) (q0 q1 : ℕ) (g : List (List Complex)) → gate_call (under e s) work q0 q1 g ≡ after_under (gate_call s work q0 q1 g)
     unfolding gate_call gate_run cleared
-    gate_under work q0 q1 g = rw same (mapped afterUnder (eqb (gate_refusal s work q0 q1 g) 0) (λ t. let x = gate_accepted s work q0 q1 g t in rw (reason_under wide g q0 q1 s x.sound wide' x.inside, run_steps_under wide (gate_steps s q0 q1 g) s x.sound wide' x.inside)) refl)
+    gate_under work q0 q1 g = rw same (mapped after_under (eqb (gate_refusal s work q0 q1 g) 0) (λ t. let x = gate_accepted s work q0 q1 g t in rw (reason_under wide g q0 q1 s x.sound wide' x.inside, run_steps_under wide (gate_steps s q0 q1 g) s x.sound wide' x.inside)) refl)
 
     -- what a list of calls takes from one
-    seen : {A : Type 0} (view : A → View) (call : State → After A) → call (under e s) ≡ afterUnder (call s)
+    seen : {A : Type 0} (view : A → View) (call : State → After A) → call (under e s) ≡ after_under (call s)
         → (view (call (under e s)).answer ≡ view (call s).answer) × (left (call (under e s)) ≡ under e (left (call s)))
     seen view call x = (λ i. view (x i).answer, λ i. left (x i))
 
@@ -189,9 +189,9 @@ module _ (e : ℕ) where
     unfolding named_gate_call project_call projected_at measure_call reset_call reset_at cleared
     call_under (gate q0 q1 g work) = seen view_applied (λ t. gate_call t work q0 q1 g) (gate_under work q0 q1 g)
     call_under (named q0 q1 name work) = seen view_applied (λ t. gate_call t work q0 q1 (matrix_of name)) (gate_under work q0 q1 (matrix_of name))
-    call_under (project q o work) = seen view_projected (λ t. project_call t work q o) (rw same (mapped afterUnder (eqb (project_refusal s work q) 0) (λ t. rw (readied_under, clamped_under)) refl))
-    call_under (measure q flag draw work) = seen view_measured (λ t. measure_call t work q flag draw) (rw same (mapped afterUnder (eqb (measure_refusal s work q flag draw) 0) (λ t. rw (readied_under, clamped_under)) refl))
-    call_under (reset q draw work) = seen view_answer (λ t. reset_call t work q draw) (rw same (mapped afterUnder (eqb (reset_refusal s work q draw) 0) (λ t. rw (readied_under, clamped_under)) refl))
+    call_under (project q o work) = seen view_projected (λ t. project_call t work q o) (rw same (mapped after_under (eqb (project_refusal s work q) 0) (λ t. rw (readied_under, clamped_under)) refl))
+    call_under (measure q flag draw work) = seen view_measured (λ t. measure_call t work q flag draw) (rw same (mapped after_under (eqb (measure_refusal s work q flag draw) 0) (λ t. rw (readied_under, clamped_under)) refl))
+    call_under (reset q draw work) = seen view_answer (λ t. reset_call t work q draw) (rw same (mapped after_under (eqb (reset_refusal s work q draw) 0) (λ t. rw (readied_under, clamped_under)) refl))
 
 -- ---- the statement
 

@@ -19,7 +19,7 @@ use Rattle.model.specs.Statements.Demand3.{F64s, AllF64, Follows, Demand3}
 use Rattle.model.specs.Statements.Product.{matrix_product, SameGate, GateF64, GateOn, by_matrix, by_name, Run, single, in_turn_lem, Replaces, ProductClause, RunClause}
 use Rattle.model.proofs.Laws.Tests.{or_second}
 use Rattle.model.proofs.Laws.Units.{Moves, assoc, comm}
-use Rattle.model.proofs.Laws.GateProducts.{fit_entries, named_fit, Permutes, permutes, product-moves, product-permutes, same-permutes, permutes_monomial}
+use Rattle.model.proofs.Laws.GateProducts.{fit_entries, named_fit, Permutes, permutes, product_moves, product_permutes, same_permutes, permutes_monomial}
 use Rattle.model.proofs.Laws.Tracked.{update, update_at, update_else}
 use Rattle.model.proofs.Laws.Following.{moved_by, moved_is}
 use Rattle.model.proofs.Laws.Refusals.{two_qubits}
@@ -43,16 +43,16 @@ module _ (h g : List (List Complex)) (H : Moves h) (G : Moves g) (u v : ℕ) (n 
           update_else v y (update u x (bits x' y' f)) q m ∙ update_else u x (bits x' y' f) q l ∙ update_else v y' (update u x' f) q m ∙ update_else u x' f q l
           ∙ sym (update_else v y (update u x f) q m ∙ update_else u x f q l)
 
-  fused : (M : Machine) → moved_by h H u v (moved_by g G u v M) ≡ moved_by (matrix_product h g) (product-moves h g H G) u v M
+  fused : (M : Machine) → moved_by h H u v (moved_by g G u v M) ≡ moved_by (matrix_product h g) (product_moves h g H G) u v M
   fused M =
       let a = M.bits u in
       let b = M.bits v in
       let x = G.first a b in
       let y = G.second a b in
       let N : Machine = moved_by g G u v M in
-      let at-u : N.bits u ≡ x = update_else v y (update u x M.bits) u n ∙ update_at u x M.bits in
-      let at-v : N.bits v ≡ y = update_at v y (update u x M.bits) in
-      (λ i. record { bits = bits (H.first (at-u i) (at-v i)) (H.second (at-u i) (at-v i)) N.bits; phase = N.phase ⊗ H.by (at-u i) (at-v i) })
+      let at_u : N.bits u ≡ x = update_else v y (update u x M.bits) u n ∙ update_at u x M.bits in
+      let at_v : N.bits v ≡ y = update_at v y (update u x M.bits) in
+      (λ i. record { bits = bits (H.first (at_u i) (at_v i)) (H.second (at_u i) (at_v i)) N.bits; phase = N.phase ⊗ H.by (at_u i) (at_v i) })
       ∙ (λ i. record {
         bits = fun_ext (twice (H.first x y) (H.second x y) x y M.bits) i;
         phase = (assoc M.phase (G.by a b) (H.by x y) ∙ ap (λ (z : Phase). M.phase ⊗ z) (comm (G.by a b) (H.by x y))) i;
@@ -158,7 +158,7 @@ module _ (n d long : ℕ) where
     moved_in_turn : {cs ds : List Call} {g h : List (List Complex)} → Moved cs g → Moved ds h → Moved (cs ++ ds) (matrix_product h g)
     moved_in_turn {cs} {ds} {g} {h} G H = record {
       apart = G.apart;
-      matrix = product-permutes h g H.matrix G.matrix;
+      matrix = product_permutes h g H.matrix G.matrix;
       is = λ M. machine_append n d long cs ds M ∙ H.is (machine_after n d long cs M) ∙ ap (moved_by h H.matrix.moves q0 q1) (G.is M)
           ∙ fused h g H.matrix.moves G.matrix.moves q0 q1 G.apart M;
     }
@@ -190,28 +190,28 @@ module _ (n d long : ℕ) (s : State)
       let y = parted n d long run after x.1 in
       let M = machine_after n d long before fresh in
       let N = machine_after n d long run M in
-      let run-accepted = sym (answers_after before run x.0 y.0) ∙ er in
-      let R = run_moved n d long q0 q1 r (fine n d long run y.0 M run-accepted) in
-      let P = same-permutes product m (gate_f64 k fo) same R.matrix in
+      let run_accepted = sym (answers_after before run x.0 y.0) ∙ er in
+      let R = run_moved n d long q0 q1 r (fine n d long run y.0 M run_accepted) in
+      let P = same_permutes product m (gate_f64 k fo) same R.matrix in
       let again = permutes_monomial product P in
       let ao = monomial_allowed n d long k again in
       let p : Proper n d long (one ∷ []) = ((fo, tt), and_i (allowed n d long one) true ao tt) in
       let one_accepted : machine_answer n d long one M ≡ accepted none = sym (head-eq_of_cons-eq (answers_after before (one ∷ []) x.0 p)) ∙ eo in
-      let same-machine : machine_next n d long one M ≡ N = machine_moved n d long k (unrefused n d long one M one_accepted) P.moves M ∙ sym (R.is M) in
+      let same_machine : machine_next n d long one M ≡ N = machine_moved n d long k (unrefused n d long one M one_accepted) P.moves M ∙ sym (R.is M) in
       let q = joined n d long before (one ∷ after) x.0 ((fo, y.1.0), and_i (allowed n d long one) (all_allowed n d long after) ao y.1.1) in
-      let with-run = D (before ++ (run ++ after)) f a in
-      let with-one = D (before ++ (one ∷ after)) q.0 q.1 in
+      let with_run = D (before ++ (run ++ after)) f a in
+      let with_one = D (before ++ (one ∷ after)) q.0 q.1 in
       let first = sym (D before x.0.0 x.0.1).0 in (
         again,
         record {
           others = machine_answers n d long after N;
-          run_answers = with-run.0 ∙ machine_answers_lem n d long before (run ++ after) fresh ∙ (λ i. first i ++ machine_answers_lem n d long run after M i)
-              ∙ (λ i. answers_of before s ++ (run-accepted i ++ machine_answers n d long after N));
-          one_answers = with-one.0 ∙ machine_answers_lem n d long before (one ∷ after) fresh ∙ (λ i. first i ++ (one_accepted i ∷ machine_answers n d long after (same-machine i)));
-          run_ends = with-run.1;
+          run_answers = with_run.0 ∙ machine_answers_lem n d long before (run ++ after) fresh ∙ (λ i. first i ++ machine_answers_lem n d long run after M i)
+              ∙ (λ i. answers_of before s ++ (run_accepted i ++ machine_answers n d long after N));
+          one_answers = with_one.0 ∙ machine_answers_lem n d long before (one ∷ after) fresh ∙ (λ i. first i ++ (one_accepted i ∷ machine_answers n d long after (same_machine i)));
+          run_ends = with_run.1;
           one_ends = subst (Follows n d (final_state (before ++ (one ∷ after)) s))
-              (machine_append n d long before (one ∷ after) fresh ∙ ap (machine_after n d long after) same-machine
-              ∙ sym (machine_append n d long before (run ++ after) fresh ∙ machine_append n d long run after M)) with-one.1;
+              (machine_append n d long before (one ∷ after) fresh ∙ ap (machine_after n d long after) same_machine
+              ∙ sym (machine_append n d long before (run ++ after) fresh ∙ machine_append n d long run after M)) with_one.1;
         },
       )
 

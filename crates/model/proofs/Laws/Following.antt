@@ -67,26 +67,26 @@ shuffled m c x y =
     ∙ ap (λ (z : Phase). z ⊗ c) (sym (assoc m x y))
 
 module _ (k : ℕ) (c : Phase) (p : ℕ → Phase) where
-  abbrev cutPhases : ℕ → Phase
-  cutPhases = update2 k (c ⊗ (p k ⊗ p (k + 1))) one p
+  abbrev cut_phases : ℕ → Phase
+  cut_phases = update2 k (c ⊗ (p k ⊗ p (k + 1))) one p
 
-  moved_base : multiplied (suc (suc k)) cutPhases ≡ multiplied (suc (suc k)) p ⊗ c
+  moved_base : multiplied (suc (suc k)) cut_phases ≡ multiplied (suc (suc k)) p ⊗ c
   moved_base =
       let e : suc k ≡ k + 1 = omega arith in
-      (λ i. (multiplied_same k p cutPhases (λ j J. update2_else k (c ⊗ (p k ⊗ p (k + 1))) one p j (omega arith) (omega arith)) i ⊗ update2_first k (c ⊗ (p k ⊗ p (k + 1))) one p i)
-      ⊗ cutPhases (e i))
+      (λ i. (multiplied_same k p cut_phases (λ j J. update2_else k (c ⊗ (p k ⊗ p (k + 1))) one p j (omega arith) (omega arith)) i ⊗ update2_first k (c ⊗ (p k ⊗ p (k + 1))) one p i)
+      ⊗ cut_phases (e i))
       ∙ (λ i. (multiplied k p ⊗ (c ⊗ (p k ⊗ p (k + 1)))) ⊗ update2_second k (c ⊗ (p k ⊗ p (k + 1))) one p i)
       ∙ shuffled (multiplied k p) c (p k) (p (k + 1))
       ∙ (λ i. ((multiplied k p ⊗ p k) ⊗ p (sym e i)) ⊗ c)
 
-  moved_step : (m : ℕ) → (k + 1 < m → multiplied m cutPhases ≡ multiplied m p ⊗ c) → Dec (m ≡ suc k) → k + 1 ≤ m → multiplied (suc m) cutPhases ≡ multiplied (suc m) p ⊗ c
-  moved_step m r (yes e) h = subst (λ (x : ℕ). multiplied (suc x) cutPhases ≡ multiplied (suc x) p ⊗ c) (sym e) moved_base
+  moved_step : (m : ℕ) → (k + 1 < m → multiplied m cut_phases ≡ multiplied m p ⊗ c) → Dec (m ≡ suc k) → k + 1 ≤ m → multiplied (suc m) cut_phases ≡ multiplied (suc m) p ⊗ c
+  moved_step m r (yes e) h = subst (λ (x : ℕ). multiplied (suc x) cut_phases ≡ multiplied (suc x) p ⊗ c) (sym e) moved_base
   moved_step m r (no n) h =
       (λ i. r (omega arith) i ⊗ update2_else k (c ⊗ (p k ⊗ p (k + 1))) one p m (omega arith) (omega arith) i)
       ∙ assoc (multiplied m p) c (p m) ∙ ap (λ (z : Phase). multiplied m p ⊗ z) (comm c (p m)) ∙ sym (assoc (multiplied m p) (p m) c)
 
   -- a cut multiplies the product
-  multiplied_moved : (n : ℕ) → k + 1 < n → multiplied n cutPhases ≡ multiplied n p ⊗ c
+  multiplied_moved : (n : ℕ) → k + 1 < n → multiplied n cut_phases ≡ multiplied n p ⊗ c
   multiplied_moved zero h = absurd (omega arith)
   multiplied_moved (suc m) h = moved_step m (multiplied_moved m) (ℕ_discrete m (suc k)) (omega arith)
 
@@ -272,8 +272,8 @@ module _ (S : Setup) (D : Fit S) where
         )
 
   -- after the swaps the chain follows the same machine
-  abbrev routed-following : (s : State) (M : Machine) (t : Following S s M) (d k : ℕ) (o : Routed S t.sites t.bits t.phases d k s) → Following S o.state M
-  routed-following s M t d k o = record {
+  abbrev routed_following : (s : State) (M : Machine) (t : Following S s M) (d k : ℕ) (o : Routed S t.sites t.bits t.phases d k s) → Following S o.state M
+  routed_following s M t d k o = record {
     sites = o.sites;
     qubits = o.qubits;
     bits = o.bits;
@@ -318,7 +318,7 @@ module _ (S : Setup) (D : Fit S) where
       let d = y - x - 1 in
       let o = swaps_routed d x t.sites t.qubits s t.bits t.phases (omega arith) t.tracked t.maps in
       gate_last g d x s o.state (moved_by g G u v M) o.is
-      (neighbours g G x u v o.state M (omega arith) bu bv (routed-following s M t d x o) (o.near u bu eu) (o.far v bv (ev ∙ omega arith)))
+      (neighbours g G x u v o.state M (omega arith) bu bv (routed_following s M t d x o) (o.near u bu eu) (o.far v bv (ev ∙ omega arith)))
 
   steps_up : (g : List (List Complex)) (x y : ℕ) → x < y → steps_of g (route_of x y) ≡ map swap_step (down_to x (y - x - 1)) ++ (gate_step g x ∷ [])
   steps_up g x y l =

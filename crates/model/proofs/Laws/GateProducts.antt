@@ -143,20 +143,20 @@ module _ (h g : List (List Complex)) where
       (summed_is (λ p q. entry h (num i j) (num p q)) (λ p q. entry g (num p q) (num a b)) (λ p q. spot (H.first p q) (H.second p q) i j (unit (H.by p q))) (G.first a b) (G.second a b) (unit (G.by a b))
       (λ p q. H.entries i j p q) (λ p q. G.entries p q a b)))
 
-  abbrev pub product-moves : Moves h → Moves g → Moves (matrix_product h g)
-  product-moves H G = record {
+  abbrev pub product_moves : Moves h → Moves g → Moves (matrix_product h g)
+  product_moves H G = record {
     first = λ a b. H.first (G.first a b) (G.second a b);
     second = λ a b. H.second (G.first a b) (G.second a b);
     by = λ a b. H.by (G.first a b) (G.second a b) ⊗ G.by a b;
     entries = product_entries H G;
   }
 
-  abbrev pub product-permutes : Permutes h → Permutes g → Permutes (matrix_product h g)
-  product-permutes H G =
+  abbrev pub product_permutes : Permutes h → Permutes g → Permutes (matrix_product h g)
+  product_permutes H G =
       let K = H.columns in
       let L = G.columns in
       record {
-        moves = product-moves H.moves G.moves;
+        moves = product_moves H.moves G.moves;
         columns = record {
           left = λ i j. L.left (K.left i j) (K.right i j);
           right = λ i j. L.right (K.left i j) (K.right i j);
@@ -176,8 +176,8 @@ module _ (p g : List (List Complex)) (f : GateF64 p) (s : SameGate p g) where
       same_value x (f (num i j) (num a b) (num_below i j) (num_below a b)) (spot (G.first a b) (G.second a b) i j (unit (G.by a b))) z.s z.t
       (subst (λ (w : Complex). T (equals x w)) z.path (s (num i j) (num a b) (num_below i j) (num_below a b)))
 
-  abbrev pub same-permutes : Permutes g → Permutes p
-  same-permutes G = record {
+  abbrev pub same_permutes : Permutes g → Permutes p
+  same_permutes G = record {
     moves = record { first = G.moves.first; second = G.moves.second; by = G.moves.by; entries = same_entry G.moves };
     columns = G.columns;
   }
@@ -208,9 +208,9 @@ tally w x y z = let add : Bool → ℕ → ℕ = λ b m. cond b m (m + 1) in add
 lone_phase_lem : (f : ℕ → Complex) (x y : Bool) (u : Bool → Bool → Phase) → ((i j : Bool) → Is (f (num i j)) (spot x y i j (unit (u i j)))) → T (lone_phase f)
 unfolding each
 lone_phase_lem f x y u h =
-    let zero-at : (i j : Bool) → not (hits x y i j) ≡ is_zero (f (num i j)) = λ i j. ap not (sym (seen (f (num i j)) (hits x y i j) (u i j) (h i j))) ∙ not-not (is_zero (f (num i j))) in
+    let zero_at : (i j : Bool) → not (hits x y i j) ≡ is_zero (f (num i j)) = λ i j. ap not (sym (seen (f (num i j)) (hits x y i j) (u i j) (h i j))) ∙ not-not (is_zero (f (num i j))) in
     and_i (eqb (each 4 (λ k m. cond (is_zero (f k)) m (m + 1)) 0) 1) (every 4 (λ k. is_zero (f k) || is_phase (f k)))
-    (subst (λ (n : ℕ). T (eqb n 1)) (λ i. tally (zero-at false false i) (zero-at false true i) (zero-at true false i) (zero-at true true i)) (go x y))
+    (subst (λ (n : ℕ). T (eqb n 1)) (λ i. tally (zero_at false false i) (zero_at false true i) (zero_at true false i) (zero_at true true i)) (go x y))
     (every_num (λ k. is_zero (f k) || is_phase (f k)) (λ i j. plain (f (num i j)) (hits x y i j) (u i j) (h i j)))
   where
     go : (x y : Bool) → T (eqb (tally (not (hits x y false false)) (not (hits x y false true)) (not (hits x y true false)) (not (hits x y true true))) 1)

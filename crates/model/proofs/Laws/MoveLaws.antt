@@ -337,7 +337,7 @@ module _ (P : State → Type 0) (k : ℕ) (s : State) where
 
   -- the pair as a cut takes it: as it stands, or with the centre on it
   pub prepared_by_lem : P s → (s.chain.center ≡ Unknown → P (established k s)) → ((from to : ℕ) → s.chain.center ≡ At from → k ≤ to → to ≤ k + 1 → P (moved from to s)) → P (prepared_for k s).state
-  prepared_by_lem as-it-is e m = either_way (λ (p : Prepared). P p.state) (keeps_centre k s) _ _ (prepared_on_by s.chain.center e m) as-it-is
+  prepared_by_lem as_it_is e m = either_way (λ (p : Prepared). P p.state) (keeps_centre k s) _ _ (prepared_on_by s.chain.center e m) as_it_is
 
 -- ---- the statements
 

@@ -270,8 +270,8 @@ module _ (high wide : ℕ) (a : List Float) where
   state j = done high wide a j
 
   -- the norm of column j as it comes to its passes
-  abbrev ownNorm : ℕ → Float
-  ownNorm j = l2_norm (state j).w (j * high) high
+  abbrev own_norm : ℕ → Float
+  own_norm j = l2_norm (state j).w (j * high) high
 
   done_next : (j : ℕ) → state (j + 1) ≡ column_of high wide (min high wide) j (state j)
   unfolding done
@@ -292,7 +292,7 @@ module _ (high wide : ℕ) (a : List Float) where
 
   -- the rank grows by at most one a column, so it is at most the number of the columns seen
   rank_grows : (j : ℕ) → ((state j).rank ≤ (state (j + 1)).rank) × ((state (j + 1)).rank ≤ (state j).rank + 1)
-  rank_grows j = either (keeps_from high wide j (state j) (ownNorm j)) (ap (λ y. y.rank) (done_next j) ∙ column_of_rank high wide j (state j) (ownNorm j) refl)
+  rank_grows j = either (keeps_from high wide j (state j) (own_norm j)) (ap (λ y. y.rank) (done_next j) ∙ column_of_rank high wide j (state j) (own_norm j) refl)
     where
       either : (b : Bool) → (state (j + 1)).rank ≡ cond b ((state j).rank + 1) (state j).rank → ((state j).rank ≤ (state (j + 1)).rank) × ((state (j + 1)).rank ≤ (state j).rank + 1)
       either true e = (omega arith, omega arith)
@@ -335,12 +335,12 @@ module _ (high wide : ℕ) (a : List Float) where
         done_since (λ y. at y.w (j * high + r)) 0 j (omega arith)
         (λ c lo hi.
         let seen = rank_seen c in
-        column_of_other high wide c (state c) (ownNorm c) refl (j * high + r) (λ q hq e. let z = cell_column high j r c q hr hq e in omega arith) (λ i l. omega arith)
+        column_of_other high wide c (state c) (own_norm c) refl (j * high + r) (λ q hq e. let z = cell_column high j r c q hr hq e in omega arith) (λ i l. omega arith)
         (λ room q hq e. let z = cell_column high j r (state c).rank q hr hq e in omega arith) (λ room. omega arith))
         ∙ ap (λ y. at y.w (j * high + r)) done_none
         ∙ at_left a (replicate (2 * (min high wide * wide)) zero_f) (j * high + r) (omega arith)
 
-    norm_given : (j : ℕ) → j < wide → ownNorm j ≡ l2_norm a (j * high) high
+    norm_given : (j : ℕ) → j < wide → own_norm j ≡ l2_norm a (j * high) high
     norm_given j hj = l2_norm_same (state j).w a (j * high) high (λ r hr. given j r hj hr)
 
     rank_next : (j : ℕ) → j < wide → rank_of high wide a (j + 1) ≡ cond (keeps high wide a j) (rank_of high wide a j + 1) (rank_of high wide a j)
@@ -358,14 +358,14 @@ module _ (high wide : ℕ) (a : List Float) where
     -- .. until its column, and from there on as its column left it
     entry_before : (i j : ℕ) → j < wide → at (state j).w (entry_at high wide i j) ≡ at start (entry_at high wide i j)
     entry_before i j hj =
-        done_since (λ y. at y.w (entry_at high wide i j)) 0 j (omega arith) (λ c l m. entry_other high wide c (state c) (ownNorm c) refl (omega arith) i j hj (omega arith))
+        done_since (λ y. at y.w (entry_at high wide i j)) 0 j (omega arith) (λ c l m. entry_other high wide c (state c) (own_norm c) refl (omega arith) i j hj (omega arith))
         ∙ ap (λ y. at y.w (entry_at high wide i j)) done_none
 
     entry_after : (i j : ℕ) → j < wide → r_at high wide a i j ≡ at (column_of high wide (min high wide) j (state j)).w (entry_at high wide i j)
     entry_after i j hj =
         ap (λ y. at y.w (entry_at high wide i j)) qr_done
         ∙ raised_entry high wide tall broad i j (state wide)
-        ∙ done_since (λ y. at y.w (entry_at high wide i j)) (j + 1) wide (omega arith) (λ c l m. entry_other high wide c (state c) (ownNorm c) refl m i j hj (omega arith))
+        ∙ done_since (λ y. at y.w (entry_at high wide i j)) (j + 1) wide (omega arith) (λ c l m. entry_other high wide c (state c) (own_norm c) refl m i j hj (omega arith))
         ∙ ap (λ y. at y.w (entry_at high wide i j)) (done_next j)
 
     -- ---- R
@@ -378,7 +378,7 @@ module _ (high wide : ℕ) (a : List Float) where
     below_staircase : (i j : ℕ) → i < min high wide → j < wide → rank_of high wide a (j + 1) ≤ i → r_at high wide a i j ≡ zero_c
     below_staircase i j hi hj h =
         let e = ap (λ y. y.rank) (done_next j) in
-        entry_after i j hj ∙ entry_below high wide j (state j) (ownNorm j) refl hj i (omega arith) ∙ entry_before i j hj ∙ start_entry i j hi hj
+        entry_after i j hj ∙ entry_below high wide j (state j) (own_norm j) refl hj i (omega arith) ∙ entry_before i j hj ∙ start_entry i j hi hj
 
     above_staircase : (i j : ℕ) → j < wide → i < rank_of high wide a j → r_at high wide a i j ≡ at (passes_at high wide a j).w (entry_at high wide i j)
     above_staircase i j hj h = entry_after i j hj ∙ entry_above high wide j (state j) (l2_norm a (j * high) high) (norm_given j hj) hj i h
@@ -402,7 +402,7 @@ module _ (high wide : ℕ) (a : List Float) where
         ∙ done_since (λ y. at y.w ((state j).rank * high + r)) (j + 1) wide (omega arith)
         (λ c lo hi.
         let later = rank_later (j + 1) c lo in
-        column_of_other high wide c (state c) (ownNorm c) refl ((state j).rank * high + r) (λ q hq e. let z = cell_column high (state j).rank r c q hr hq e in omega arith) (λ i li. omega arith)
+        column_of_other high wide c (state c) (own_norm c) refl ((state j).rank * high + r) (λ q hq e. let z = cell_column high (state j).rank r c q hr hq e in omega arith) (λ i li. omega arith)
         (λ m q hq e. let z = cell_column high (state j).rank r (state c).rank q hr hq e in omega arith) (λ m. omega arith))
         ∙ ap (λ y. at y.w ((state j).rank * high + r)) (done_next j)
         ∙ column_kept high wide j (state j) (l2_norm a (j * high) high) (norm_given j hj) hj (omega arith) h r hr seen

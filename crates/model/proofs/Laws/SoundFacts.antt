@@ -112,40 +112,40 @@ module _ (c : Chain) where
   abbrev agree : ℕ → Bool
   agree i = leb c.num_qubits (i + 1) || eqb (bond_right c i) (bond_left c (i + 1))
 
-  abbrev leftFits : ℕ → Bool
-  leftFits = entry_fits c.num_qubits c.bond_left range
+  abbrev left_fits : ℕ → Bool
+  left_fits = entry_fits c.num_qubits c.bond_left range
 
-  abbrev rightFits : ℕ → Bool
-  rightFits = entry_fits c.num_qubits c.bond_right range
+  abbrev right_fits : ℕ → Bool
+  right_fits = entry_fits c.num_qubits c.bond_right range
 
   bonds_facts : c.num_qubits ≤ 64 → Sized c → T (bonds_fit c) → Bonds c.num_qubits c.bond_high_water c.bond_left c.bond_right
   unfolding bonds_fit
   bonds_facts most z h =
       let n = c.num_qubits in
-      let t = five (eqb (bond_left c 0) 1) (eqb (bond_right c (n - 1)) 1) (every 63 agree) (every 64 leftFits) (every 64 rightFits) h in
+      let t = five (eqb (bond_left c 0) 1) (eqb (bond_right c (n - 1)) 1) (every 63 agree) (every 64 left_fits) (every 64 right_fits) h in
       record {
         first = eqb→eq (bond_left c 0) 1 t.0;
         last = eqb→eq (bond_right c (n - 1)) 1 t.1;
         neighbours = λ i l. eqb→eq (bond_right c i) (bond_left c (i + 1)) (or_test (leb n (i + 1)) _ (every_at 63 agree i (omega arith) t.2) (λ m. let m' = leb→le n (i + 1) m in omega arith));
-        left_range = λ k l. within_range 1 c.bond_high_water _ (entry_within n c.bond_left range k (every_at 64 leftFits k (omega arith) t.3) l);
-        right_range = λ k l. within_range 1 c.bond_high_water _ (entry_within n c.bond_right range k (every_at 64 rightFits k (omega arith) t.4) l);
-        left_past = past_all n c.bond_left z.lefts (λ i m. entry_past n c.bond_left range i (every_at 64 leftFits i m t.3));
-        right_past = past_all n c.bond_right z.rights (λ i m. entry_past n c.bond_right range i (every_at 64 rightFits i m t.4));
+        left_range = λ k l. within_range 1 c.bond_high_water _ (entry_within n c.bond_left range k (every_at 64 left_fits k (omega arith) t.3) l);
+        right_range = λ k l. within_range 1 c.bond_high_water _ (entry_within n c.bond_right range k (every_at 64 right_fits k (omega arith) t.4) l);
+        left_past = past_all n c.bond_left z.lefts (λ i m. entry_past n c.bond_left range i (every_at 64 left_fits i m t.3));
+        right_past = past_all n c.bond_right z.rights (λ i m. entry_past n c.bond_right range i (every_at 64 right_fits i m t.4));
       }
 
   facts_bonds : Bonds c.num_qubits c.bond_high_water c.bond_left c.bond_right → T (bonds_fit c)
   unfolding bonds_fit
   facts_bonds h =
       let n = c.num_qubits in
-      of_five (eqb (bond_left c 0) 1) (eqb (bond_right c (n - 1)) 1) (every 63 agree) (every 64 leftFits) (every 64 rightFits)
+      of_five (eqb (bond_left c 0) 1) (eqb (bond_right c (n - 1)) 1) (every 63 agree) (every 64 left_fits) (every 64 right_fits)
       (eq→eqb h.first)
       (eq→eqb h.last)
       (every_of 63 agree (λ i l. ⊎_elim
       (λ (m : i + 1 < n). or_second (leb n (i + 1)) _ (eq→eqb (h.neighbours i m)))
       (λ (m : n ≤ i + 1). or_first (leb n (i + 1)) _ (le→leb n (i + 1) m))
       (below_or_past (i + 1) n)))
-      (every_of 64 leftFits (λ k l. entry_fits_lem n c.bond_left range k (λ m. range_within 1 c.bond_high_water _ (h.left_range k m)) (h.left_past k)))
-      (every_of 64 rightFits (λ k l. entry_fits_lem n c.bond_right range k (λ m. range_within 1 c.bond_high_water _ (h.right_range k m)) (h.right_past k)))
+      (every_of 64 left_fits (λ k l. entry_fits_lem n c.bond_left range k (λ m. range_within 1 c.bond_high_water _ (h.left_range k m)) (h.left_past k)))
+      (every_of 64 right_fits (λ k l. entry_fits_lem n c.bond_right range k (λ m. range_within 1 c.bond_high_water _ (h.right_range k m)) (h.right_past k)))
 
 module _ (n : ℕ) (there back : List ℕ) where
   undone_facts : n ≤ 64 → length there ≡ 64 → T (undoes n there back) → Undone n there back
@@ -176,16 +176,16 @@ facts_centre (At k) n h = lt→ltb k n (h k refl)
 
 -- the discarded weights past the last bond
 module _ (n : ℕ) (xs : List Float) where
-  abbrev entryFree : ℕ → Bool
-  entryFree k = ltb (k + 1) n || eqb (to_bits binary64 (get_or xs k nan)) 0
+  abbrev entry_free : ℕ → Bool
+  entry_free k = ltb (k + 1) n || eqb (to_bits binary64 (get_or xs k nan)) 0
 
   discarded_facts : T (discarded_fits n xs) → (k : ℕ) → n ≤ k + 1 → k < 63 → to_bits binary64 (get_or xs k nan) ≡ 0
   unfolding discarded_fits
-  discarded_facts h k l m = eqb→eq _ 0 (or_test (ltb (k + 1) n) _ (every_at 63 entryFree k m h) (λ t. let b = ltb→lt (k + 1) n t in omega arith))
+  discarded_facts h k l m = eqb→eq _ 0 (or_test (ltb (k + 1) n) _ (every_at 63 entry_free k m h) (λ t. let b = ltb→lt (k + 1) n t in omega arith))
 
   facts_discarded : ((k : ℕ) → n ≤ k + 1 → k < 63 → to_bits binary64 (get_or xs k nan) ≡ 0) → T (discarded_fits n xs)
   unfolding discarded_fits
-  facts_discarded h = every_of 63 entryFree (λ k m. ⊎_elim
+  facts_discarded h = every_of 63 entry_free (λ k m. ⊎_elim
       (λ (l : k + 1 < n). or_first (ltb (k + 1) n) _ (lt→ltb (k + 1) n l))
       (λ (l : n ≤ k + 1). or_second (ltb (k + 1) n) _ (eq→eqb (h k l m)))
       (below_or_past (k + 1) n))
@@ -215,25 +215,25 @@ module _ (c : Chain) where
 
   -- ---- the test passes exactly where the propositions hold
 
-  abbrev settingsTest : Bool
-  settingsTest = settings_fit c.num_qubits c.max_bond_dim c.svd_epsilon c.norm_clamp_min c.workspace_exponent
+  abbrev settings_test : Bool
+  settings_test = settings_fit c.num_qubits c.max_bond_dim c.svd_epsilon c.norm_clamp_min c.workspace_exponent
 
-  abbrev waterTest : Bool
-  waterTest = within 1 c.max_bond_dim c.bond_high_water
+  abbrev water_test : Bool
+  water_test = within 1 c.max_bond_dim c.bond_high_water
 
-  abbrev sitesTest : Bool
-  sitesTest = undoes c.num_qubits c.logical_to_site c.site_to_logical
+  abbrev sites_test : Bool
+  sites_test = undoes c.num_qubits c.logical_to_site c.site_to_logical
 
-  abbrev qubitsTest : Bool
-  qubitsTest = undoes c.num_qubits c.site_to_logical c.logical_to_site
+  abbrev qubits_test : Bool
+  qubits_test = undoes c.num_qubits c.site_to_logical c.logical_to_site
 
-  abbrev discardedTest : Bool
-  discardedTest = discarded_fits c.num_qubits c.bond_discarded
+  abbrev discarded_test : Bool
+  discarded_test = discarded_fits c.num_qubits c.bond_discarded
 
   pub sound_facts : T (sound c) → Sound c
   unfolding sound
   sound_facts h =
-      let t = eight settingsTest waterTest (bonds_fit c) sitesTest qubitsTest (center_fits c.center c.num_qubits) discardedTest (sized c) h in
+      let t = eight settings_test water_test (bonds_fit c) sites_test qubits_test (center_fits c.center c.num_qubits) discarded_test (sized c) h in
       let settings = settings_facts c.num_qubits c.max_bond_dim c.svd_epsilon c.norm_clamp_min c.workspace_exponent t.0 in
       let most : c.num_qubits ≤ 64 = settings.qubits.1 in
       let z = sized_facts t.7 in
@@ -251,7 +251,7 @@ module _ (c : Chain) where
   pub facts_sound : Sound c → T (sound c)
   unfolding sound
   facts_sound h =
-      of_eight settingsTest waterTest (bonds_fit c) sitesTest qubitsTest (center_fits c.center c.num_qubits) discardedTest (sized c)
+      of_eight settings_test water_test (bonds_fit c) sites_test qubits_test (center_fits c.center c.num_qubits) discarded_test (sized c)
       (facts_settings c.num_qubits c.max_bond_dim c.svd_epsilon c.norm_clamp_min c.workspace_exponent h.settings)
       (range_within 1 c.max_bond_dim c.bond_high_water h.high_water)
       (facts_bonds c h.bonds)

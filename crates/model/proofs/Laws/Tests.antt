@@ -39,8 +39,8 @@ trichotomy a b = either (leb a b) refl
 -- ---- tests joined
 
 pub or_test : (a b : Bool) → T (a || b) → (T a → ⊥) → T b
-or_test true b h no-a = absurd (no-a tt)
-or_test false b h no-a = h
+or_test true b h no_a = absurd (no_a tt)
+or_test false b h no_a = h
 
 pub or_first : (a b : Bool) → T a → T (a || b)
 or_first true b h = tt

@@ -334,25 +334,25 @@ module _ (S : Setup) (D : Fit S) (A B : List ℕ) where
 
     -- ---- a cut
     module _ (gate : List (List Complex)) (G : Moves gate) (k : ℕ) (K : k + 1 < S.qubits) where
-      abbrev pub movedBits : ℕ → Bool
-      movedBits = update2 k (G.first (b k) (b (k + 1))) (G.second (b k) (b (k + 1))) b
+      abbrev pub moved_bits : ℕ → Bool
+      moved_bits = update2 k (G.first (b k) (b (k + 1))) (G.second (b k) (b (k + 1))) b
 
-      abbrev pub movedPhases : ℕ → Phase
-      movedPhases = update2 k (G.by (b k) (b (k + 1)) ⊗ (p k ⊗ p (k + 1))) one p
+      abbrev pub moved_phases : ℕ → Phase
+      moved_phases = update2 k (G.by (b k) (b (k + 1)) ⊗ (p k ⊗ p (k + 1))) one p
 
       -- the cut is stored: not refused, not made again
       abbrev Stored : Tried → Type 0
-      Stored a = (t : State) × (a ≡ tried 0 false t) × Tracked S A B t movedBits movedPhases
+      Stored a = (t : State) × (a ≡ tried 0 false t) × Tracked S A B t moved_bits moved_phases
 
       -- the state that a cut leaves, by its two sites and its shares of the discarded weight
-      abbrev cutWritten : Bool → WeightSide → State → List Float → List Float → List Float → State
-      cutWritten maintained side s l r shares =
+      abbrev cut_written : Bool → WeightSide → State → List Float → List Float → List Float → State
+      cut_written maintained side s l r shares =
           let t = pair_stored k l 1 r s in
           held (with_center (cut_recorded k 1 shares t.chain) (cond maintained (At (weight_site side k)) s.chain.center)) t.store
 
       written_tracked : (maintained : Bool) (side : WeightSide) (s : State) (l r shares : List Float) → Tracked S A B s b p → length l ≡ 4
           → Holds l (G.first (b k) (b (k + 1))) (G.by (b k) (b (k + 1)) ⊗ (p k ⊗ p (k + 1))) → length r ≡ 4 → Holds r (G.second (b k) (b (k + 1))) one → recorded s.chain.truncation_discarded shares ≡ zero_f
-          → Tracked S A B (cutWritten maintained side s l r shares) movedBits movedPhases
+          → Tracked S A B (cut_written maintained side s l r shares) moved_bits moved_phases
       written_tracked maintained side s l r shares t sl hl sr hr e =
           let u = pair_tracked s b p k (G.first (b k) (b (k + 1))) (G.second (b k) (b (k + 1))) (G.by (b k) (b (k + 1)) ⊗ (p k ⊗ p (k + 1))) one l r K t sl hl sr hr in
           record {
@@ -381,13 +381,13 @@ module _ (S : Setup) (D : Fit S) (A B : List ℕ) where
           let x =
           cut_exact gate G (site_at s k) (site_at s (k + 1)) (b k) (b (k + 1)) (p k) (p (k + 1)) (t.holds k K') (t.holds (k + 1) K)
           s.chain.svd_epsilon s.chain.norm_clamp_min s.chain.max_bond_dim P.side F.epsilon F.clamp F.some in
-          let out = cutWritten maintained P.side s (left_site P.side 1 1 d) (right_site P.side 1 1 d) (share (values d) 1) in (
+          let out = cut_written maintained P.side s (left_site P.side 1 1 d) (right_site P.side 1 1 d) (share (values d) 1) in (
             out,
             (λ i. concluded k maintained P.side s
                 (pair_svd s.chain.norm_clamp_min (t.lefts_one k K' i) (t.rights_one k K' i) (t.rights_one (k + 1) K i) gate (site_at s k) (site_at s (k + 1))))
                 ∙ (λ i. cond (x.ordered i) (tried 7 false s) (cond (not maintained && x.resolved i) (tried 0 true s) (tried 0 false (cut_stored k maintained P.side s d (x.bond i)))))
                 ∙ calm maintained (tried 0 true s) (tried 0 false (cut_stored k maintained P.side s d 1))
-                ∙ (λ i. tried 0 false (cutWritten maintained P.side s (left_site P.side (t.lefts_one k K' i) 1 d) (right_site P.side 1 (t.rights_one (k + 1) K i) d) (share (values d) 1))),
+                ∙ (λ i. tried 0 false (cut_written maintained P.side s (left_site P.side (t.lefts_one k K' i) 1 d) (right_site P.side 1 (t.rights_one (k + 1) K i) d) (share (values d) 1))),
             written_tracked maintained P.side s (left_site P.side 1 1 d) (right_site P.side 1 1 d) (share (values d) 1) t (length_left P.side d)
                 (subst (λ (c : ℕ). Holds (left_site P.side 1 c d) (G.first (b k) (b (k + 1))) (G.by (b k) (b (k + 1)) ⊗ (p k ⊗ p (k + 1)))) x.bond x.left)
                 (length_right P.side d) (subst (λ (c : ℕ). Holds (right_site P.side c 1 d) (G.second (b k) (b (k + 1))) one) x.bond x.right)
@@ -411,7 +411,7 @@ module _ (S : Setup) (D : Fit S) (A B : List ℕ) where
             c.2,
           )
 
-      pub adjacent_tracked : (s : State) → Tracked S A B s b p → (t : State) × (adjacent gate k s ≡ ran 0 t) × Tracked S A B t movedBits movedPhases
+      pub adjacent_tracked : (s : State) → Tracked S A B s b p → (t : State) × (adjacent gate k s ≡ ran 0 t) × Tracked S A B t moved_bits moved_phases
       unfolding adjacent
       adjacent_tracked s t =
           let c = attempt_stored s t in (

@@ -1,4 +1,4 @@
--- The marked examples of document 01, and those of the reasons of ranks and of the bonds' discarded weights (document 02, W3 and W6): one list, and one statement that covers it. A row has what the definitions compute, and what it has to be.
+-- The marked examples of document 01, and those of the reasons of ranks and of the bonds' discarded weights (document 02, W3 and W6): one list. That every row holds is one statement, `marked` of Promised. A row has what the definitions compute, and what it has to be.
 use Rattle.std.specs.Prelude.{ℕ, ◌/◌, ◌%◌, ◌^◌, Bool, true, false, ◌&&◌, ◌||◌, cond, List, [], ◌∷◌, ◌++◌, map, eqb, replicate, take, Float}
 use Rattle.std.specs.Float.{binary64}
 use Rattle.std.specs.Float.Ieee.{round, of_bits, to_bits}

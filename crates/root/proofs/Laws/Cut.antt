@@ -4,7 +4,7 @@ use Rattle.std.proofs.Common.{sym, ap, ◌∙◌, mul_comm, mul-pos, zero-mul, a
 use Rattle.std.proofs.Math.Nat.{mod-one, div-div-eq-div-mul, mul-div-mul_right, mul-add-div_right, add-mul-mod_self_left, mul-mod_left}
 use Rattle.std.proofs.Math.Arith.{mod-mul}
 use Rattle.std.specs.Float.Ieee.Bits.{is_true}
-use Rattle.root.specs.Cut.{Cut, Cut}
+use Rattle.root.specs.Cut.{Cut}
 
 some : (n : ℕ) → 0 < n → nat_lt 0 n ≡ true
 some n h = is_true (nat_lt 0 n) (lt→ltb 0 n h)

@@ -3,7 +3,7 @@ use Rattle.std.specs.Prelude.{◌≡◌, ℕ, ◌+◌, ◌-◌, ◌*◌, ◌/◌
 use Rattle.std.proofs.Common.{sym, ap, ◌∙◌, subst, inl, inr, lt_of_lt_of_le, mul-le-mul_left, mul_assoc, pow-suc, add-one, arith, pow_mono}
 use Rattle.std.proofs.Math.Nat.{two-pow-succ}
 use Rattle.root.specs.Whole.{RootRest}
-use Rattle.root.specs.Digits.{fed, After, After, Digit}
+use Rattle.root.specs.Digits.{fed, After, Digit}
 
 pub before_turns : (s q r : ℕ) → s < 2 ^ 64 → q < 2 ^ 27 → r ≤ 2 * q → After s (q * q + r) 0 s q r
 before_turns s q r h few rest = record { word = omega arith; few = few; found = record { value = omega arith; rest = rest } }

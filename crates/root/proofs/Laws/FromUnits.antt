@@ -14,7 +14,7 @@ use Rattle.std.specs.Float.Ieee.Scale.{finite}
 use Rattle.root.specs.Units.{Significand, in_units}
 use Rattle.root.proofs.Laws.Units.{units_of_value, units_top, value_sign, bits_at, top_at}
 use Rattle.root.specs.Nearest.{Candidate}
-use Rattle.root.specs.FromUnits.{Decodes, Decodes}
+use Rattle.root.specs.FromUnits.{Decodes}
 
 pub top_value : of_bits binary64 0x7FF0_0000_0000_0000 ≡ inf false
 unfolding of_bits

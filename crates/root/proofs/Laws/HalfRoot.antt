@@ -20,7 +20,7 @@ use Rattle.root.proofs.Laws.FromUnits.{units_count, units_candidate, units_bits,
 use Rattle.root.specs.Cut.{Cut}
 use Rattle.root.specs.Wide.{whole}
 use Rattle.root.specs.declared.Wide.{Wide}
-use Rattle.root.specs.HalfRoot.{half_root, Halvable, Halvable}
+use Rattle.root.specs.HalfRoot.{half_root, Halvable}
 
 -- ---- w is the whole root of 4 * q in units of G * G, which is twice q's, and h its half
 

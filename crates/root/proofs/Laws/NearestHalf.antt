@@ -7,7 +7,7 @@ use Rattle.std.proofs.Math.Dec.{leb-zero, leb-suc-suc}
 use Rattle.std.specs.Float.Ieee.Digits.{back}
 use Rattle.root.specs.Whole.{RootRest}
 use Rattle.root.proofs.Laws.Whole.{strictly, square_lt}
-use Rattle.root.specs.NearestHalf.{nearest_half, Halved, Halved, even, up, down}
+use Rattle.root.specs.NearestHalf.{nearest_half, Halved, even, up, down}
 
 pub parity : (p : ℕ) → (p % 2 ≡ 0) ⊎ (p % 2 ≡ 1)
 parity p = go (p % 2) (omega arith)

@@ -9,7 +9,7 @@ use Rattle.root.specs.Units.{in_units}
 use Rattle.root.proofs.Laws.Units.{same_units, same_bits, bits_lt, units_lt, units_top, at_pattern}
 use Rattle.root.proofs.Laws.Whole.{strictly, square_lt}
 use Rattle.root.specs.Nearest.{Candidate, Even, Nearest, square_of_sum}
-use Rattle.root.specs.NearestLaws.{At, At}
+use Rattle.root.specs.NearestLaws.{At}
 
 -- a midpoint that is not reached is no tie
 pub strict : (r : Float) (a b : ℕ) → a < b → (a ≤ b) × (a ≡ b → Even r)

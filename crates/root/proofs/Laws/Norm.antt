@@ -19,34 +19,34 @@ neither (inf s) h = absurd h
 neither (fin s m e) h = (refl, refl)
 
 module _ (a : Complex) where
-  abbrev someInfinite : Bool
-  someInfinite = infinite a.re || infinite a.im
+  abbrev some_infinite : Bool
+  some_infinite = infinite a.re || infinite a.im
 
-  abbrev someNan : Bool
-  someNan = is_nan a.re || is_nan a.im
+  abbrev some_nan : Bool
+  some_nan = is_nan a.re || is_nan a.im
 
   abbrev rounded : Float
   rounded = nearest_root (sum_of_squares a.re a.im)
 
-  pub infinite_part : someInfinite ≡ true → norm_of a ≡ inf false
+  pub infinite_part : some_infinite ≡ true → norm_of a ≡ inf false
   unfolding norm_of
-  infinite_part e = ap (λ (b : Bool). cond b (inf false) (cond someNan nan rounded)) e
+  infinite_part e = ap (λ (b : Bool). cond b (inf false) (cond some_nan nan rounded)) e
 
-  no_infinite : someInfinite ≡ false → norm_of a ≡ cond someNan nan rounded
+  no_infinite : some_infinite ≡ false → norm_of a ≡ cond some_nan nan rounded
   unfolding norm_of
-  no_infinite e = ap (λ (b : Bool). cond b (inf false) (cond someNan nan rounded)) e
+  no_infinite e = ap (λ (b : Bool). cond b (inf false) (cond some_nan nan rounded)) e
 
-  pub nan_part : someInfinite ≡ false → someNan ≡ true → norm_of a ≡ nan
+  pub nan_part : some_infinite ≡ false → some_nan ≡ true → norm_of a ≡ nan
   nan_part e f = no_infinite e ∙ ap (λ (b : Bool). cond b nan rounded) f
 
-  pub finite_parts : someInfinite ≡ false → someNan ≡ false → norm_of a ≡ rounded
+  pub finite_parts : some_infinite ≡ false → some_nan ≡ false → norm_of a ≡ rounded
   finite_parts e f = no_infinite e ∙ ap (λ (b : Bool). cond b nan rounded) f
 
   pub norm_infinite : T (infinite a.re || infinite a.im) → norm_of a ≡ inf false
-  norm_infinite h = infinite_part (is_true someInfinite h)
+  norm_infinite h = infinite_part (is_true some_infinite h)
 
   pub norm_nan : T (not (infinite a.re || infinite a.im)) → T (is_nan a.re || is_nan a.im) → norm_of a ≡ nan
-  norm_nan h k = nan_part (is_false someInfinite h) (is_true someNan k)
+  norm_nan h k = nan_part (is_false some_infinite h) (is_true some_nan k)
 
   pub norm_finite : T (finite a.re) → T (finite a.im) → norm_of a ≡ nearest_root (sum_of_squares a.re a.im)
   norm_finite h k = let x = neither a.re h in let y = neither a.im k in finite_parts (ap₂ (λ (b c : Bool). b || c) x.0 y.0) (ap₂ (λ (b c : Bool). b || c) x.1 y.1)

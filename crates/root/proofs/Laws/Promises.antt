@@ -4,7 +4,7 @@ use Rattle.root.proofs.Laws.Norm as norm
 use Rattle.root.proofs.Laws.Marked as table
 use Rattle.root.proofs.Laws.Theorems as theorems
 use Rattle.root.proofs.Laws.NormTheorems as size
-use Rattle.root.specs.Promises.{Promised, Promised}
+use Rattle.root.specs.Promises.{Promised}
 
 pub promised : Promised
 promised = record {

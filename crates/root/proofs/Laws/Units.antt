@@ -12,7 +12,7 @@ use Rattle.std.specs.Float.Ieee.Bits.{of_bits-to_bits, of_bits-fits, to_bits-of_
 use Rattle.std.specs.Float.Ieee.Exact.{HasValue}
 use Rattle.std.specs.Float.Ieee.Positive.{positive}
 use Rattle.complex.specs.Complex.{zero_f}
-use Rattle.root.specs.Units.{in_units, sign_clear, Held, Held, Significand, Short, Short, AtPattern, AtPattern}
+use Rattle.root.specs.Units.{in_units, sign_clear, Held, Significand, Short, AtPattern}
 
 -- the format holds a value of either sign
 pub unsigned_fits : (s : Bool) (m : ℕ) (e : ℤ) → T (fits binary64 (fin s m e)) → T (fits binary64 (fin false m e))

@@ -2,7 +2,7 @@
 use Rattle.std.specs.Prelude.{◌≡◌, ℕ, zero, suc, ◌-◌, ◌*◌, ◌/◌, ◌^◌, ◌<◌, ◌≤◌, Bool, true, false, cond, not, T, nat_le}
 use Rattle.std.proofs.Common.{subst, zero-le, le_antisymm, le_of_lt, le_of_suc-le-suc, lt_irrefl, lt_of_le_of_lt, lt_of_not-le, not-le_of_lt, mul-le-mul, mul-le-mul_left, mul-lt-mul_of_pos_right, pow-suc, div-lt_iff_lt-mul, zero-lt-suc, arith, leb→le}
 use Rattle.std.proofs.Math.Dec.{nleb→lt}
-use Rattle.root.specs.Whole.{whole_root, IsRoot, IsRoot, RootRest, RootRest}
+use Rattle.root.specs.Whole.{whole_root, IsRoot, RootRest}
 
 pub root_of_rest : (n w r : ℕ) → RootRest n w r → IsRoot n w
 root_of_rest n w r R = record { low = omega (arith, R.value); high = omega (arith, R.value, R.rest) }

@@ -6,7 +6,7 @@ use Rattle.std.proofs.Math.Decide.{dec_le}
 use Rattle.std.proofs.Math.Arith.{digits_lt}
 use Rattle.root.proofs.Laws.PowersOfFour.{four_pow, four_pos}
 use Rattle.root.specs.declared.Wide.{Wide}
-use Rattle.root.specs.Wide.{whole, Products, Products, low_word}
+use Rattle.root.specs.Wide.{whole, Products, low_word}
 
 -- how large the upper word is
 pub upper_lt : (hi lo N : ℕ) → hi * 2 ^ 54 + lo ≡ N → N < 2 ^ 108 → hi < 2 ^ 54

@@ -15,7 +15,7 @@ use Rattle.record.specs.Reading.{read_of, read_kind}
 use Rattle.lines.specs.Text.{decimal, bit_digit, detail_text, line_text}
 use Rattle.session.specs.declared.Session.{Session}
 use Rattle.session.specs.Session.{new_session, detail_of, line_of, turned_away, after_start, start_step, gate_step, named_gate_step, projection_step, measure_step, reset_step, kind_step, obeys, step_of}
-use Rattle.session.specs.Promises.{value_text, answer_text, Promised, Promised}
+use Rattle.session.specs.Promises.{value_text, answer_text, Promised}
 
 -- ---- proofs
 

@@ -20,7 +20,7 @@ use Rattle.session.proofs.Laws.Promises.{promised}
 use Rattle.stream.specs.Output.{stops, lines_from, text_of_lines}
 use Rattle.stream.specs.Feeding.{record_done, Feeding, feeding, in_progress, with_byte, if_whole, can_take, takes, fed, run_of, ended, text_so_far, to_come, Underway}
 use Rattle.stream.proofs.Laws.Turns.{taking}
-use Rattle.stream.specs.Pieces.{OneByte, OneByte, Kept, Kept, end_text}
+use Rattle.stream.specs.Pieces.{OneByte, Kept, end_text}
 
 -- ---- a run between two pieces
 

@@ -8,7 +8,7 @@ use Rattle.stream.specs.Output.{lines_from, lines_of, text_of_lines, text_of}
 use Rattle.stream.specs.Feeding.{Feeding, in_progress, fed, text_so_far, to_come, Underway}
 use Rattle.stream.proofs.Laws.Pieces.{nothing_yet, kept, enough, at_end, no_lines}
 use Rattle.stream.proofs.Laws.Marked as examples
-use Rattle.stream.specs.Promises.{Handed, Handed, input_of, Roomy, onwards, printed_by, new_feeding, Promised, Promised}
+use Rattle.stream.specs.Promises.{Handed, input_of, Roomy, onwards, printed_by, new_feeding, Promised}
 
 -- ---- proofs
 
