@@ -2,6 +2,9 @@
 // projected on 1.
 #![tactic(auto)]
 
+ghost use Rattle.std.specs.Prelude.{◌≤◌, length, take, OnOk};
+ghost use Rattle.std.specs.Io.KnownBytes.{Appends};
+
 use chain::{apply_gate, apply_named_gate, project, start};
 use complex::Complex;
 use gates::NamedGate;
@@ -35,7 +38,9 @@ fn bell_pair(store: &mut [f64], work: &mut [f64]) -> Gated {
 }
 
 // A word.
-fn say<W: Write>(writer: &mut W, word: &[u8]) -> io::Result<()> {
+fn say<W: Write>(writer: &mut W, word: &[u8]) -> io::Result<()>
+    ensures { OnOk result (Appends (W.contents writer.old) (W.contents writer.new) word.now) }
+{
     writer.write_all(word)
 }
 
@@ -53,7 +58,9 @@ fn show_reason<W: Write>(writer: &mut W, answer: Applied) -> io::Result<()> {
 }
 
 // The first n bytes, where there are so many.
-fn print<W: Write>(writer: &mut W, text: &[u8], n: usize) -> io::Result<()> {
+fn print<W: Write>(writer: &mut W, text: &[u8], n: usize) -> io::Result<()>
+    ensures { OnOk result (n ≤ length text.now → Appends (W.contents writer.old) (W.contents writer.new) (take n text.now)) }
+{
     if n <= text.len() {
         writer.write_all(&text[..n])
     } else {
