@@ -2,8 +2,11 @@
 // the reads and writes. It stops at the input's end, after the line `0 8`, and where a read or a write fails.
 #![tactic(auto)]
 
-ghost use Rattle.std.specs.Prelude.{◌≤◌, ◌≡◌, length, IfOk};
+ghost use Rattle.std.specs.Prelude.{◌≤◌, ◌≡◌, length, take, IfOk, OnOk, IfSome};
+ghost use Rattle.std.specs.Io.KnownBytes.{ReadConsumes, Appends};
 ghost use Rattle.stream.specs.Output.{new_store, new_work};
+ghost use Rattle.stream.specs.Feeding.{before, Underway, ended};
+ghost use Rattle.chainrun.specs.Program.{HaveRoom, Turn, Prints};
 
 use std::io;
 use std::io::{Read, Write};
@@ -18,7 +21,8 @@ struct Turned {
 
 // Reads what is there, as far as the slice goes, and answers how many bytes came; 0 at the input's end.
 fn read_piece<R: Read>(reader: &mut R, piece: &mut [u8]) -> io::Result<usize>
-    ensures { IfOk result (λ n. n ≤ length piece.new) }
+    ensures in_bounds { IfOk result (λ n. n ≤ length piece.new) }
+    ensures bytes { ReadConsumes (R.remaining reader.old) (R.remaining reader.new) result piece.new }
 {
     reader.read(piece)
 }
@@ -26,13 +30,16 @@ fn read_piece<R: Read>(reader: &mut R, piece: &mut [u8]) -> io::Result<usize>
 // Writes the first n bytes at once.
 fn print_front<W: Write>(writer: &mut W, text: &[u8], n: usize) -> io::Result<()>
     requires { n ≤ length text.now }
+    ensures { OnOk result (Appends (W.contents writer.old) (W.contents writer.new) (take n text.now)) }
 {
     writer.write_all(&text[..n])?;
     writer.flush()
 }
 
 // The input has ended.
-fn print_end<W: Write>(writer: &mut W, run: Run, text: &mut [u8]) -> io::Result<()> {
+fn print_end<W: Write>(writer: &mut W, run: Run, text: &mut [u8]) -> io::Result<()>
+    ensures { OnOk result (Appends (W.contents writer.old) (W.contents writer.new) (take (ended run text.old).written (ended run text.old).text)) }
+{
     let n = end(run, text);
     print_front(writer, text, n)
 }
@@ -47,7 +54,9 @@ fn turn<R: Read, W: Write>(
     bytes: &mut [u8],
     piece: &mut [u8],
     text: &mut [u8],
-) -> io::Result<Turned> {
+) -> io::Result<Turned>
+    ensures { IfOk result (λ t. HaveRoom bytes.old piece.old text.old → Underway (before run store.old work.old bytes.old text.old) → IfSome (R.remaining reader.old) (λ input. Turn (before run store.old work.old bytes.old text.old) (before t.run store.new work.new bytes.new text.new) input (R.remaining reader.new) (W.contents writer.old) (W.contents writer.new) t.goes_on)) }
+{
     let got = read_piece(reader, piece)?;
     if got == 0 {
         print_end(writer, run, text)?;
@@ -65,8 +74,9 @@ fn turn<R: Read, W: Write>(
     })
 }
 
-// A proved loop has to end, and nothing says that the input does. So the turns are counted, up to a number that no run
-// uses up. The store and the work slice are those of which `lines_of` of stream speaks.
+// The whole run: what it prints is the text of its input, however that comes in pieces. A proved loop has to end, and
+// nothing says that the input does. So the turns are counted, up to a number that no run uses up. The store and the work
+// slice are those of which `lines_of` of stream speaks.
 fn run_all<R: Read, W: Write>(
     reader: &mut R,
     writer: &mut W,
@@ -78,12 +88,13 @@ fn run_all<R: Read, W: Write>(
 ) -> io::Result<()>
     requires store_value { store.old ≡ new_store }
     requires work_value { work.old ≡ new_work }
+    ensures { OnOk result (HaveRoom bytes.old piece.old text.old → Prints (R.remaining reader.old) (W.contents writer.old) (W.contents writer.new)) }
 {
     let mut run = new_run();
     for _ in 0..u64::MAX {
         let next = turn(reader, writer, run, store, work, bytes, piece, text)?;
         if !next.goes_on {
-            break;
+            return Ok(());
         }
         run = next.run;
     }

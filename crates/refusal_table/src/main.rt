@@ -2,6 +2,9 @@
 // kind would print.
 #![tactic(auto)]
 
+ghost use Rattle.std.specs.Prelude.{◌≤◌, length, take, OnOk};
+ghost use Rattle.std.specs.Io.KnownBytes.{Appends};
+
 use chain::{apply_named_gate, measure, start};
 use gates::NamedGate;
 use lines::{Detail, Line, write_line};
@@ -107,7 +110,9 @@ fn unknown_kind() -> u8 {
 }
 
 // The first n bytes, where there are so many.
-fn put<W: Write>(writer: &mut W, text: &[u8], n: usize) -> io::Result<()> {
+fn put<W: Write>(writer: &mut W, text: &[u8], n: usize) -> io::Result<()>
+    ensures { OnOk result (n ≤ length text.now → Appends (W.contents writer.old) (W.contents writer.new) (take n text.now)) }
+{
     if n <= text.len() {
         writer.write_all(&text[..n])
     } else {

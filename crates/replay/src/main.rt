@@ -3,7 +3,8 @@
 // A stream in the list is its length in bytes, 4 bytes least first, and its records.
 #![tactic(auto)]
 
-ghost use Rattle.std.specs.Prelude.{◌≡◌, ◌≤◌, ◌<◌, length, IfOk};
+ghost use Rattle.std.specs.Prelude.{◌≡◌, ◌≤◌, ◌<◌, length, take, IfOk, OnOk};
+ghost use Rattle.std.specs.Io.KnownBytes.{Appends};
 
 use bytes_le::u32_at;
 use lines::{Line, write_line};
@@ -16,7 +17,9 @@ use std::io::{Read, Write};
 // ---- records
 
 // The first n bytes, where there are so many.
-fn write_front<W: Write>(writer: &mut W, text: &[u8], n: usize) -> io::Result<()> {
+fn write_front<W: Write>(writer: &mut W, text: &[u8], n: usize) -> io::Result<()>
+    ensures { OnOk result (n ≤ length text.now → Appends (W.contents writer.old) (W.contents writer.new) (take n text.now)) }
+{
     if n <= text.len() {
         write_text(writer, &text[..n])
     } else {

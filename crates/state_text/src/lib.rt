@@ -3,7 +3,8 @@
 // no contract.
 #![tactic(auto)]
 
-ghost use Rattle.std.specs.Prelude.{◌≡◌, ◌≤◌, ◌<◌, length};
+ghost use Rattle.std.specs.Prelude.{◌≡◌, ◌≤◌, ◌<◌, length, OnOk};
+ghost use Rattle.std.specs.Io.KnownBytes.{Appends};
 
 use bytes_le::to_bits;
 use chain::{left_environment, right_environment};
@@ -13,7 +14,9 @@ use std::io::Write;
 
 // ---- words of a line
 
-pub fn write_text<W: Write>(writer: &mut W, text: &[u8]) -> io::Result<()> {
+pub fn write_text<W: Write>(writer: &mut W, text: &[u8]) -> io::Result<()>
+    ensures { OnOk result (Appends (W.contents writer.old) (W.contents writer.new) text.now) }
+{
     writer.write_all(text)
 }
 
