@@ -5,7 +5,7 @@
     python3 tests/bench/bench.py RUST OUT count         # instructions, by valgrind's callgrind
 
 RUST is the folder of the Rust text, OUT a folder to build in (tests/oracle/build_oracle.py says what that needs). The
-port is linked as a static library that `rt staticlib` writes once it is proved. Three builds of the Rust stand beside it:
+port is linked as a static library that `rt lib` writes once it is proved. Three builds of the Rust stand beside it:
 
     shipped    as it ships, complex size by its own `hypot`: timed, 'Rust' in the tables
     rooted     each square root and complex size taken by the port's functions: timed, 'Rust, our root'
