@@ -2,9 +2,9 @@
 # Proves and builds chainrun with everything below it, runs it on the sample stream, and says what each line means.
 set -euo pipefail
 cd "$(dirname "$0")/.."
-log=$(mktemp)
-trap 'rm -f "$log"' EXIT
-(cd crates/chainrun && rt run < ../../samples/ghz.run) > "$log" || { tail -n 30 "$log"; exit 1; }
+log=$(mktemp) said=$(mktemp)
+trap 'rm -f "$log" "$said"' EXIT
+(cd crates/chainrun && rt run < ../../samples/ghz.run) > "$log" 2> "$said" || { tail -n 30 "$said"; exit 1; }
 meaning=(
     'start: three qubits under a cap of 4'
     'gate: Hadamard on qubit 0, beside qubit 1'
