@@ -13,7 +13,7 @@ ghost use Rattle.model.specs.Born.{bit_of, weight as weight_of, rescale, project
 ghost use Rattle.born.specs.Kept.{kept_pair, kept_site};
 
 use columns::{clear_from, sum_squares};
-use complex::{Complex, complex_at, mul, set_complex};
+use complex::{Complex, complex_at, set_complex};
 use root::root;
 
 // The first of the br numbers at bit o, among the two rows of a left index.
@@ -51,7 +51,7 @@ fn keep_number(pair: &mut [f64], f: usize, t: usize, u: usize, by: Complex)
     requires t_bound { (t < count pair.old) × (u < count pair.old) }
     ensures { pair.new ≡ store (store pair.old u zero_c) t (mul_c (at pair.old f) by) }
 {
-    let z = mul(complex_at(pair, f), by);
+    let z = complex_at(pair, f) * by;
     set_complex(pair, u, Complex { re: 0.0, im: 0.0 });
     set_complex(pair, t, z);
 }

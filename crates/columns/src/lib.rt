@@ -7,7 +7,7 @@ ghost use Rattle.complex.specs.Complex.{conj_c, zero_f};
 ghost use Rattle.complex.specs.Numbers.{count, at, numbers};
 ghost use Rattle.model.specs.Columns.{squares, l2_norm, scaled_to, zeroed};
 
-use complex::{Complex, complex_at, conj, norm_sqr, scale, set_complex};
+use complex::{Complex, complex_at, set_complex};
 use root::root;
 
 // ---- numbers
@@ -40,7 +40,7 @@ pub fn sum_squares(w: &[f64], base: usize, n: usize) -> f64
 {
     let mut sum = 0.0;
     for k in 0..n {
-        sum = sum + norm_sqr(complex_at(w, base + k));
+        sum = sum + complex_at(w, base + k).norm_sqr();
     }
     sum
 }
@@ -59,7 +59,7 @@ pub fn scale_to(w: &mut [f64], from: usize, to: usize, n: usize, by: f64)
     ensures { w.new ≡ scaled_to from to n by w.old }
 {
     for k in 0..n {
-        set_complex(w, to + k, scale(complex_at(w, from + k), by));
+        set_complex(w, to + k, complex_at(w, from + k).scale(by));
     }
 }
 
@@ -91,7 +91,7 @@ pub fn conj_row(out: &mut [f64], w: &[f64], base: usize, start: usize, n: usize)
     ensures { out.new ≡ numbers n (λ c. conj_c (at w.now (base + (start + c)))) }
 {
     for c in 0..n {
-        set_complex(out, c, conj(complex_at(w, base + (start + c))));
+        set_complex(out, c, complex_at(w, base + (start + c)).conj());
     }
 }
 

@@ -3,8 +3,10 @@
 #![tactic(auto)]
 
 ghost use Rattle.std.specs.Prelude.{◌≡◌, ◌<◌};
-ghost use Rattle.complex.specs.Complex.{add_c, sub_c, neg_c, conj_c, mul_c, norm_sqr, scale_c, unscale_c, is_zero};
+ghost use Rattle.complex.specs.Complex.{add_c, sub_c, neg_c, conj_c, mul_c, norm_sqr, scale_c, unscale_c, is_zero, real};
 ghost use Rattle.complex.specs.Numbers.{count, at, store};
+
+use std::ops::{Add, Mul, Neg, Sub};
 
 #[derive(Clone, Copy)]
 pub struct Complex {
@@ -12,91 +14,119 @@ pub struct Complex {
     pub im: f64,
 }
 
-#[tactic(auto, unfolding(crate::specs::Complex::add_c))]
-pub fn add(a: Complex, b: Complex) -> Complex
-    ensures { result ≡ add_c a b }
-{
-    Complex {
-        re: a.re + b.re,
-        im: a.im + b.im,
+impl From<f64> for Complex {
+    ghost from_gives = { λ x z. z ≡ real x };
+
+    fn from(x: f64) -> Complex
+        ensures { result ≡ real x }
+    {
+        Complex { re: x, im: 0.0 }
     }
 }
 
-#[tactic(auto, unfolding(crate::specs::Complex::sub_c))]
-pub fn sub(a: Complex, b: Complex) -> Complex
-    ensures { result ≡ sub_c a b }
-{
-    Complex {
-        re: a.re - b.re,
-        im: a.im - b.im,
+impl Add for Complex {
+    type Output = Complex;
+
+    ghost add_gives = { λ a b z. z ≡ add_c a b };
+
+    #[tactic(auto, unfolding(crate::specs::Complex::add_c))]
+    fn add(self, b: Complex) -> Complex {
+        Complex {
+            re: self.re + b.re,
+            im: self.im + b.im,
+        }
     }
 }
 
-#[tactic(auto, unfolding(crate::specs::Complex::neg_c))]
-pub fn neg(a: Complex) -> Complex
-    ensures { result ≡ neg_c a }
-{
-    Complex {
-        re: -a.re,
-        im: -a.im,
+impl Sub for Complex {
+    type Output = Complex;
+
+    ghost sub_gives = { λ a b z. z ≡ sub_c a b };
+
+    #[tactic(auto, unfolding(crate::specs::Complex::sub_c))]
+    fn sub(self, b: Complex) -> Complex {
+        Complex {
+            re: self.re - b.re,
+            im: self.im - b.im,
+        }
     }
 }
 
-#[tactic(auto, unfolding(crate::specs::Complex::conj_c))]
-pub fn conj(z: Complex) -> Complex
-    ensures { result ≡ conj_c z }
-{
-    Complex {
-        re: z.re,
-        im: -z.im,
+impl Neg for Complex {
+    type Output = Complex;
+
+    ghost neg_gives = { λ a z. z ≡ neg_c a };
+
+    #[tactic(auto, unfolding(crate::specs::Complex::neg_c))]
+    fn neg(self) -> Complex {
+        Complex {
+            re: -self.re,
+            im: -self.im,
+        }
     }
 }
 
-#[tactic(auto, unfolding(crate::specs::Complex::mul_c))]
-pub fn mul(a: Complex, b: Complex) -> Complex
-    ensures { result ≡ mul_c a b }
-{
-    Complex {
-        re: a.re * b.re - a.im * b.im,
-        im: a.re * b.im + a.im * b.re,
+impl Mul for Complex {
+    type Output = Complex;
+
+    ghost mul_gives = { λ a b z. z ≡ mul_c a b };
+
+    #[tactic(auto, unfolding(crate::specs::Complex::mul_c))]
+    fn mul(self, b: Complex) -> Complex {
+        Complex {
+            re: self.re * b.re - self.im * b.im,
+            im: self.re * b.im + self.im * b.re,
+        }
     }
 }
 
-#[tactic(auto, unfolding(crate::specs::Complex::norm_sqr))]
-pub fn norm_sqr(a: Complex) -> f64
-    ensures { result ≡ norm_sqr a }
-{
-    a.re * a.re + a.im * a.im
-}
+impl Complex {
+    pub const ZERO: Complex = Complex { re: 0.0, im: 0.0 };
 
-// a times the real number t.
-#[tactic(auto, unfolding(crate::specs::Complex::scale_c))]
-pub fn scale(a: Complex, t: f64) -> Complex
-    ensures { result ≡ scale_c a t }
-{
-    Complex {
-        re: a.re * t,
-        im: a.im * t,
+    #[tactic(auto, unfolding(crate::specs::Complex::conj_c))]
+    pub fn conj(self) -> Complex
+        ensures { result ≡ conj_c self }
+    {
+        let Complex { re, im } = self;
+        Complex { re, im: -im }
     }
-}
 
-// a divided by the real number t.
-#[tactic(auto, unfolding(crate::specs::Complex::unscale_c))]
-pub fn unscale(a: Complex, t: f64) -> Complex
-    ensures { result ≡ unscale_c a t }
-{
-    Complex {
-        re: a.re / t,
-        im: a.im / t,
+    #[tactic(auto, unfolding(crate::specs::Complex::norm_sqr))]
+    pub fn norm_sqr(self) -> f64
+        ensures { result ≡ norm_sqr self }
+    {
+        self.re * self.re + self.im * self.im
     }
-}
 
-// Whether both parts are zeros, of either sign.
-#[tactic(auto, unfolding(crate::specs::Complex::is_zero))]
-pub fn is_zero(a: Complex) -> bool
-    ensures { result ≡ is_zero a }
-{
-    (a.re == 0.0) & (a.im == 0.0)
+    // Times the real number t.
+    #[tactic(auto, unfolding(crate::specs::Complex::scale_c))]
+    pub fn scale(self, t: f64) -> Complex
+        ensures { result ≡ scale_c self t }
+    {
+        Complex {
+            re: self.re * t,
+            im: self.im * t,
+        }
+    }
+
+    // Divided by the real number t.
+    #[tactic(auto, unfolding(crate::specs::Complex::unscale_c))]
+    pub fn unscale(self, t: f64) -> Complex
+        ensures { result ≡ unscale_c self t }
+    {
+        Complex {
+            re: self.re / t,
+            im: self.im / t,
+        }
+    }
+
+    // Whether both parts are zeros, of either sign.
+    #[tactic(auto, unfolding(crate::specs::Complex::is_zero))]
+    pub fn is_zero(self) -> bool
+        ensures { result ≡ is_zero self }
+    {
+        (self.re == 0.0) & (self.im == 0.0)
+    }
 }
 
 // Complex number k of a slice.

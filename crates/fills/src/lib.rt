@@ -10,7 +10,7 @@ ghost use Rattle.model.specs.Pair.{isometry_site, scaled_site, vt_site, scaled_v
 ghost use Rattle.fills.specs.Factors.{ColumnsIn, ValuesIn, column_of, row_of, value_of};
 
 use columns::{clear_from, conj_row, gather, wide};
-use complex::{Complex, complex_at, conj, mul, scale, set_complex};
+use complex::{Complex, complex_at, set_complex};
 
 // Where a factor of a decomposition stands among its numbers: its first number, and how many a column has.
 #[derive(Clone, Copy)]
@@ -73,7 +73,7 @@ fn scaled_row(
         let column = wide(order[g]);
         let x = complex_at(w, base + (column * stride + r));
         let s = complex_at(w, vals + column);
-        set_complex(out, g, scale(x, s.re));
+        set_complex(out, g, x.scale(s.re));
     }
 }
 
@@ -150,7 +150,7 @@ fn scaled_conj_row(out: &mut [f64], w: &[f64], base: usize, start: usize, s: f64
     let factor = Complex { re: s, im: 0.0 };
     for c in 0..n {
         let x = complex_at(w, base + (start + c));
-        set_complex(out, c, mul(factor, conj(x)));
+        set_complex(out, c, factor * x.conj());
     }
 }
 

@@ -11,7 +11,7 @@ ghost use Rattle.model.specs.Qr.{kept};
 ghost use Rattle.model.specs.Moves.{right_matrix, left_matrix, absorbed_right, absorbed_left};
 
 use columns::{clear_from, conj_row, gather};
-use complex::{Complex, add, complex_at, conj, mul, set_complex};
+use complex::{Complex, complex_at, set_complex};
 
 // ---- a site as the matrix that is factored
 
@@ -70,13 +70,7 @@ fn right_sum(
 {
     let mut acc = Complex { re: 0.0, im: 0.0 };
     for d in 0..n {
-        acc = add(
-            acc,
-            mul(
-                complex_at(w, from + (row + d)),
-                complex_at(next, d * step + c),
-            ),
-        );
+        acc = acc + complex_at(w, from + (row + d)) * complex_at(next, d * step + c);
     }
     acc
 }
@@ -151,13 +145,7 @@ fn left_sum(prev: &[f64], line: usize, w: &[f64], from: usize, row: usize, n: us
 {
     let mut acc = Complex { re: 0.0, im: 0.0 };
     for d in 0..n {
-        acc = add(
-            acc,
-            mul(
-                complex_at(prev, line + d),
-                conj(complex_at(w, from + (row + d))),
-            ),
-        );
+        acc = acc + complex_at(prev, line + d) * complex_at(w, from + (row + d)).conj();
     }
     acc
 }

@@ -7,7 +7,7 @@ ghost use Rattle.complex.specs.Numbers.{count};
 ghost use Rattle.model.specs.Jacobi as jacobi;
 ghost use Rattle.jacobi.specs.Factors.{applied, Acts, turned_p, turned_q, Turns, turned_pair};
 
-use complex::{Complex, add, complex_at, conj, mul, neg, norm_sqr, set_complex, unscale};
+use complex::{Complex, complex_at, set_complex};
 use model::{Gram, Rotation};
 use root::{norm, root};
 
@@ -15,7 +15,7 @@ const JACOBI_REL_TOL: f64 = 1e-15;
 
 const MAX_SVD_SWEEPS: usize = 100;
 
-// Columns p and q: the sums of their squared moduli, and of conj(p) times q.
+// Columns p and q: the sums of their squared moduli, and of p.conj() times q.
 fn gram(w: &[f64], high: usize, p: usize, q: usize) -> Gram
     requires { (p * high + high ≤ count w.now) × (q * high + high ≤ count w.now) }
     ensures { result ≡ jacobi.gram w.now high p q }
@@ -26,9 +26,9 @@ fn gram(w: &[f64], high: usize, p: usize, q: usize) -> Gram
     for r in 0..high {
         let x = complex_at(w, p * high + r);
         let y = complex_at(w, q * high + r);
-        pp = pp + norm_sqr(x);
-        qq = qq + norm_sqr(y);
-        pq = add(pq, mul(conj(x), y));
+        pp = pp + x.norm_sqr();
+        qq = qq + y.norm_sqr();
+        pq = pq + x.conj() * y;
     }
     Gram { pp, qq, pq }
 }
@@ -37,7 +37,7 @@ fn gram(w: &[f64], high: usize, p: usize, q: usize) -> Gram
 fn skipped(g: Gram) -> bool
     ensures { result ≡ jacobi.skipped g }
 {
-    norm_sqr(g.pq) <= JACOBI_REL_TOL * JACOBI_REL_TOL * g.pp * g.qq
+    g.pq.norm_sqr() <= JACOBI_REL_TOL * JACOBI_REL_TOL * g.pp * g.qq
 }
 
 // The tangent of the rotation's angle, of smaller magnitude. No branch goes around the division, since nothing foretells
@@ -58,7 +58,7 @@ fn rotation(g: Gram) -> Rotation
     let size = norm(g.pq);
     let t = tangent((g.qq - g.pp) / (2.0 * size));
     let c = 1.0 / root(1.0 + t * t);
-    let phase_conj = conj(unscale(g.pq, size));
+    let phase_conj = g.pq.unscale(size).conj();
     Rotation {
         c,
         s: t * c,
@@ -118,9 +118,9 @@ fn turn_of(t: Rotation) -> Turn
     let s_cx = Complex { re: t.s, im: 0.0 };
     Turn {
         px: factor_of(c_cx),
-        py: factor_of(mul(s_cx, t.phase_conj)),
-        qx: factor_of(neg(s_cx)),
-        qy: factor_of(mul(c_cx, t.phase_conj)),
+        py: factor_of(s_cx * t.phase_conj),
+        qx: factor_of(-s_cx),
+        qy: factor_of(c_cx * t.phase_conj),
     }
 }
 
@@ -128,14 +128,14 @@ fn turn_of(t: Rotation) -> Turn
 fn rotated_p(t: Turn, x: Complex, y: Complex) -> Complex
     ensures { result ≡ turned_p t x y }
 {
-    add(times(t.px, x), times(t.py, y))
+    times(t.px, x) + times(t.py, y)
 }
 
 // What a number y of column q becomes, with x in its row of column p.
 fn rotated_q(t: Turn, x: Complex, y: Complex) -> Complex
     ensures { result ≡ turned_q t x y }
 {
-    add(times(t.qx, x), times(t.qy, y))
+    times(t.qx, x) + times(t.qy, y)
 }
 
 // Numbers i and j, rotated.

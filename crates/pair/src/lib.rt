@@ -8,7 +8,7 @@ ghost use Rattle.complex.specs.Numbers.{count};
 ghost use Rattle.model.specs.Pair.{gated_theta, matrix_of, adjoint_of};
 ghost use Rattle.pair.specs.Blocks.{grown, dots_of, mix_of, mixed_of, conjugated, gated_block, stored, line, straight_place, adjoint_place, adjoint};
 
-use complex::{Complex, add, complex_at, conj, mul, set_complex};
+use complex::{Complex, complex_at, set_complex};
 
 // The bonds of a pair of neighbours: left of it, between its sites, right of it.
 #[derive(Clone, Copy)]
@@ -30,7 +30,7 @@ pub struct Block {
 fn add_product(acc: Complex, x: Complex, y: Complex) -> Complex
     ensures { result ≡ add_c acc (mul_c x y) }
 {
-    add(acc, mul(x, y))
+    acc + x * y
 }
 
 // One more term of the four sums.
@@ -105,10 +105,10 @@ fn conj_block(t: Block) -> Block
     ensures { result ≡ conjugated t }
 {
     Block {
-        e00: conj(t.e00),
-        e01: conj(t.e01),
-        e10: conj(t.e10),
-        e11: conj(t.e11),
+        e00: t.e00.conj(),
+        e01: t.e01.conj(),
+        e10: t.e10.conj(),
+        e11: t.e11.conj(),
     }
 }
 

@@ -9,7 +9,7 @@ ghost use Rattle.complex.specs.Numbers.{count};
 ghost use Rattle.model.specs.Qr as qr;
 
 use columns::{clear_from, l2_norm, scale_to, smaller, zero_run};
-use complex::{Complex, add, complex_at, conj, mul, set_complex, sub};
+use complex::{Complex, complex_at, set_complex};
 
 const QR_MAX_PASSES: usize = 3;
 
@@ -17,12 +17,12 @@ const QR_PASS_RETAIN: f64 = 0.5;
 
 const QR_RANK_REL_TOL: f64 = 1e-14;
 
-// conj(number a) times number b, added to acc.
+// number a.conj() times number b, added to acc.
 fn add_term(w: &[f64], a: usize, b: usize, acc: Complex) -> Complex
     requires { (a < count w.now) × (b < count w.now) }
     ensures { result ≡ qr.term w.now a b acc }
 {
-    add(acc, mul(conj(complex_at(w, a)), complex_at(w, b)))
+    acc + complex_at(w, a).conj() * complex_at(w, b)
 }
 
 #[derive(Clone, Copy)]
@@ -72,7 +72,7 @@ fn dot(w: &[f64], a: usize, b: usize, n: usize) -> Complex
     let m = n / 4;
     let f = sum_fours(w, a, b, m);
     let first = sum_rest(w, a, b, 4 * m, n, f.s0);
-    add(add(first, f.s1), add(f.s2, f.s3))
+    first + f.s1 + (f.s2 + f.s3)
 }
 
 // d times the n numbers from `from` on, taken from those from `to` on.
@@ -84,7 +84,7 @@ fn take_away(w: &mut [f64], from: usize, to: usize, n: usize, d: Complex)
         set_complex(
             w,
             to + k,
-            sub(complex_at(w, to + k), mul(d, complex_at(w, from + k))),
+            complex_at(w, to + k) - d * complex_at(w, from + k),
         );
     }
 }
@@ -97,7 +97,7 @@ fn project_on(w: &mut [f64], high: usize, wide: usize, cap: usize, j: usize, i: 
     let d = dot(w, i * high, j * high, high);
     take_away(w, i * high, j * high, high, d);
     let entry = wide * high + (i * wide + j);
-    set_complex(w, entry, add(complex_at(w, entry), d));
+    set_complex(w, entry, complex_at(w, entry) + d);
 }
 
 // One pass along each of the columns kept; the residual is the norm of what is left.

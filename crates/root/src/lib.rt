@@ -16,7 +16,7 @@ ghost use Rattle.root.specs.FromUnits.{Decodes};
 ghost use Rattle.root.specs.HalfRoot.{half_root, Halvable};
 ghost use Rattle.root.specs.NormMethod.{scaled_sum, cut_off};
 
-use complex::{Complex, norm_sqr};
+use complex::Complex;
 use std::num::wrapping_sub_u64;
 
 // ---- numbers of two words
@@ -337,7 +337,7 @@ fn excess(a: Complex, g: f64) -> f64 {
 }
 
 fn norm_guess(a: Complex) -> f64 {
-    let z = norm_sqr(a);
+    let z = a.norm_sqr();
     if z != z {
         return z;
     }

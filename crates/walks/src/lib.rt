@@ -9,7 +9,7 @@ ghost use Rattle.model.specs.Slots.{amplitude};
 ghost use Rattle.model.specs.Environment.{identity_env, left_across, right_across};
 ghost use Rattle.walks.specs.Products.{InSite, plus_unless_zero, term_left, cell_left, few_left, inner_left, many_left, entry_left, term_right, cell_right, few_right, inner_right, many_right, entry_right};
 
-use complex::{Complex, add, complex_at, conj, is_zero, mul, set_complex};
+use complex::{Complex, complex_at, set_complex};
 
 // ---- the identity, and the way to the front
 
@@ -58,7 +58,7 @@ fn amplitude_at(site: &[f64], br: usize, a: usize, i: usize, b: usize) -> Comple
 fn plus_unless_zero(e: Complex, x: Complex, acc: Complex) -> Complex
     ensures { result ≡ plus_unless_zero e x acc }
 {
-    if is_zero(e) { acc } else { add(acc, mul(e, x)) }
+    if e.is_zero() { acc } else { acc + e * x }
 }
 
 // The term of the bit i of the entry e of a left environment at (a, a1), added to acc.
@@ -79,7 +79,7 @@ fn left_term(
 {
     let x = amplitude_at(site, br, a, i, g);
     let y = amplitude_at(site, br, a1, i, g1);
-    add(acc, mul(mul(e, x), conj(y)))
+    acc + e * x * y.conj()
 }
 
 // Both terms of an entry, unless it is zero.
@@ -96,7 +96,7 @@ fn left_cell(
     requires { (br ≤ 128) × (g < br) × (g1 < br) × (a * (2 * br) + 2 * br ≤ count site.now) × (a1 * (2 * br) + 2 * br ≤ count site.now) }
     ensures { result ≡ cell_left br site.now a a1 g g1 e acc }
 {
-    if is_zero(e) {
+    if e.is_zero() {
         acc
     } else {
         let z = left_term(site, br, a, a1, g, g1, e, 0, acc);
@@ -147,7 +147,7 @@ fn left_many(
     let mut acc = Complex { re: 0.0, im: 0.0 };
     for r in 0..high {
         let x = complex_at(front, mid + (r * br + g));
-        acc = plus_unless_zero(x, conj(complex_at(site, r * br + g1)), acc);
+        acc = plus_unless_zero(x, complex_at(site, r * br + g1).conj(), acc);
     }
     acc
 }
@@ -235,7 +235,7 @@ fn right_term(
 {
     let x = amplitude_at(site, br, a, i, b);
     let y = amplitude_at(site, br, a1, i, b1);
-    add(acc, mul(mul(x, conj(y)), e))
+    acc + x * y.conj() * e
 }
 
 // Both terms of an entry, unless it is zero.
@@ -252,7 +252,7 @@ fn right_cell(
     requires { (br ≤ 128) × (b < br) × (b1 < br) × (a * (2 * br) + 2 * br ≤ count site.now) × (a1 * (2 * br) + 2 * br ≤ count site.now) }
     ensures { result ≡ cell_right br site.now a a1 b b1 e acc }
 {
-    if is_zero(e) {
+    if e.is_zero() {
         acc
     } else {
         let z = right_term(site, br, a, a1, b, b1, e, 0, acc);
@@ -281,7 +281,7 @@ fn right_inner(env: &[f64], site: &[f64], br: usize, r: usize, b1: usize) -> Com
     let mut acc = Complex { re: 0.0, im: 0.0 };
     for b in 0..br {
         let x = complex_at(site, r * br + b);
-        acc = add(acc, mul(x, complex_at(env, b * br + b1)));
+        acc = acc + x * complex_at(env, b * br + b1);
     }
     acc
 }
@@ -295,7 +295,7 @@ fn right_many(front: &[f64], site: &[f64], br: usize, mid: usize, a: usize, a1: 
     let mut acc = Complex { re: 0.0, im: 0.0 };
     for c in 0..wide {
         let x = complex_at(front, mid + (a * wide + c));
-        acc = add(acc, mul(x, conj(complex_at(site, a1 * wide + c))));
+        acc = acc + x * complex_at(site, a1 * wide + c).conj();
     }
     acc
 }
