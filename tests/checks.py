@@ -186,7 +186,8 @@ FORMS = [
 # The same of types: crate, what its text has to hold.
 TYPES = [
     ("model", r"pub enum Projected \{\s*Kept\(f64\),\s*Nothing,\s*Refused\(u8\),\s*\}"),
-    ("model", r"pub struct Projection \{\s*pub answer: Projected,\s*pub chain: Chain,\s*\}"),
+    ("model", r"pub struct After<A> \{\s*pub answer: A,\s*pub chain: Chain,\s*\}"),
+    ("model", r"pub type Projection = After<Projected>;"),
     ("model", r"pub struct Chain \{[^}]*svd_epsilon: f64,[^}]*norm_clamp_min: f64,"),
     ("complex", r"pub struct Complex \{\s*pub re: f64,\s*pub im: f64,\s*\}"),
 ]

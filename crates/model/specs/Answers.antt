@@ -1,18 +1,32 @@
 -- What each answer says, in document 01's terms: its refusal number, 0 where the call is accepted, and its value.
-use Rattle.std.specs.Prelude.{ℕ, Bool, cond, List, [], ◌∷◌, Float}
+use Rattle.std.specs.Prelude.{ℕ, zero, suc, Bool, cond, List, [], ◌∷◌, Float, Result, Ok, Err}
 use Rattle.std.specs.Float.{binary64}
 use Rattle.std.specs.Float.Ieee.{to_bits}
-use Rattle.model.specs.declared.Answer.{Answer}
-use Rattle.model.specs.declared.Answer.TheVariants as answer
 use Rattle.model.specs.declared.Reason.{Reason}
-use Rattle.model.specs.declared.Applied.{Applied}
-use Rattle.model.specs.declared.Applied.TheVariants as applied
 use Rattle.model.specs.declared.Projected.{Projected}
 use Rattle.model.specs.declared.Projected.TheVariants as projected
-use Rattle.model.specs.declared.Measured.{Measured}
-use Rattle.model.specs.declared.Measured.TheVariants as measured
-use Rattle.model.specs.declared.Contracted.{Contracted}
-use Rattle.model.specs.declared.Contracted.TheVariants as contracted
+
+-- ---- the answers: Ok of what an accepted call hands back, Err of a refusal's number
+
+-- of a start or a reset, a gate with the reason of its last cut, a measurement with its bit, and an environment walk with its dimension
+abbrev pub Answer : Type 0
+Answer = Result (Unit {0}) ℕ
+
+abbrev pub Applied : Type 0
+Applied = Result Reason ℕ
+
+abbrev pub Measured : Type 0
+Measured = Result Bool ℕ
+
+abbrev pub Contracted : Type 0
+Contracted = Result ℕ ℕ
+
+-- the refusal of a number, and Ok where it is 0
+abbrev pub refusal_of : ℕ → Answer
+refusal_of zero = Ok tt
+refusal_of (suc k) = Err (suc k)
+
+-- ---- what they say
 
 -- what an accepted call's answer holds besides
 pub data Value : Type 0 where
@@ -42,12 +56,12 @@ abbrev pub refused : ℕ → View
 refused k = record { number = k; value = none }
 
 abbrev pub view_answer : Answer → View
-view_answer answer.Done = accepted none
-view_answer (answer.Refused k) = refused k
+view_answer (Ok x) = accepted none
+view_answer (Err k) = refused k
 
 abbrev pub view_applied : Applied → View
-view_applied (applied.Done r) = accepted none
-view_applied (applied.Refused k) = refused k
+view_applied (Ok r) = accepted none
+view_applied (Err k) = refused k
 
 abbrev pub view_projected : Projected → View
 view_projected (projected.Kept w) = accepted (weight w)
@@ -55,12 +69,12 @@ view_projected projected.Nothing = accepted nothing
 view_projected (projected.Refused k) = refused k
 
 abbrev pub view_measured : Measured → View
-view_measured (measured.Bit b) = accepted (bit b)
-view_measured (measured.Refused k) = refused k
+view_measured (Ok b) = accepted (bit b)
+view_measured (Err k) = refused k
 
 abbrev pub view_contracted : Contracted → View
-view_contracted (contracted.Dim n) = accepted (dimension n)
-view_contracted (contracted.Refused k) = refused k
+view_contracted (Ok n) = accepted (dimension n)
+view_contracted (Err k) = refused k
 
 -- a gate's answer with its reason, which the view leaves out: none where the call is refused (document 02, W3)
 pub record Told : Type 0 where
@@ -68,5 +82,5 @@ pub record Told : Type 0 where
   pub reason : List Reason
 
 abbrev pub told_applied : Applied → Told
-told_applied (applied.Done r) = record { number = 0; reason = r ∷ [] }
-told_applied (applied.Refused k) = record { number = k; reason = [] }
+told_applied (Ok r) = record { number = 0; reason = r ∷ [] }
+told_applied (Err k) = record { number = k; reason = [] }

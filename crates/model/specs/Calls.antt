@@ -1,5 +1,5 @@
 -- The public calls, on all inputs: each is its refusals in their order around a run, with everything that it leaves.
-use Rattle.std.specs.Prelude.{ℕ, zero, suc, ◌*◌, Bool, false, not, ◌||◌, cond, List, ◌++◌, leb, ltb, eqb, length, drop, replicate, set, Float}
+use Rattle.std.specs.Prelude.{ℕ, zero, suc, ◌*◌, Bool, false, not, ◌||◌, cond, List, ◌++◌, leb, ltb, eqb, length, drop, replicate, set, Float, Ok, Err}
 use Rattle.std.specs.Float.{binary64}
 use Rattle.std.specs.Float.Ieee.{div, le}
 use Rattle.complex.specs.Complex.{zero_f}
@@ -8,17 +8,10 @@ use Rattle.gates.specs.Finite.{all_finite}
 use Rattle.gates.specs.Named.{matrix_of}
 use Rattle.gates.specs.declared.NamedGate.{NamedGate}
 use Rattle.model.specs.declared.Chain.{Chain}
-use Rattle.model.specs.declared.Answer.{Answer}
-use Rattle.model.specs.declared.Answer.TheVariants as answer
 use Rattle.model.specs.declared.Reason.{Reason}
-use Rattle.model.specs.declared.Applied.{Applied}
-use Rattle.model.specs.declared.Applied.TheVariants as applied
 use Rattle.model.specs.declared.Projected.{Projected}
 use Rattle.model.specs.declared.Projected.TheVariants as projected
-use Rattle.model.specs.declared.Measured.{Measured}
-use Rattle.model.specs.declared.Measured.TheVariants as measured
-use Rattle.model.specs.declared.Contracted.{Contracted}
-use Rattle.model.specs.declared.Contracted.TheVariants as contracted
+use Rattle.model.specs.Answers.{Answer, Applied, Measured, Contracted}
 use Rattle.model.specs.Chain.{site_of, with_bits}
 use Rattle.model.specs.Slots.{State, held, store_room, work_room}
 use Rattle.model.specs.Cut.{Ran}
@@ -68,9 +61,9 @@ started a c store = record { answer = a; chain = c; store = store }
 
 unfoldable pub start_call : ℕ → ℕ → Float → Float → ℕ → List Float → Started
 start_call n d epsilon clamp exponent store =
-    cond (not (settings_fit n d epsilon clamp exponent)) (started (answer.Refused 1) zero_chain store)
-    (cond (ltb (length store) (store_room n d)) (started (answer.Refused 2) zero_chain store)
-    (started answer.Done (fresh_chain n d epsilon clamp exponent) (fresh_store n d store)))
+    cond (not (settings_fit n d epsilon clamp exponent)) (started (Err 1) zero_chain store)
+    (cond (ltb (length store) (store_room n d)) (started (Err 2) zero_chain store)
+    (started (Ok tt) (fresh_chain n d epsilon clamp exponent) (fresh_store n d store)))
 
 -- ---- a gate on the qubits q0 and q1, by matrix and by name
 
@@ -80,8 +73,8 @@ gate_refusal s work q0 q1 gate =
 
 -- the reason where nothing refused the run, else its number
 abbrev pub applied_of : Reason → ℕ → Applied
-applied_of reason zero = applied.Done reason
-applied_of reason (suc k) = applied.Refused (suc k)
+applied_of reason zero = Ok reason
+applied_of reason (suc k) = Err (suc k)
 
 abbrev pub gate_after : Reason → Ran → List Float → After Applied
 gate_after reason r work = after (applied_of reason r.refused) r.state work
@@ -89,7 +82,7 @@ gate_after reason r work = after (applied_of reason r.refused) r.state work
 unfoldable pub gate_call : State → List Float → ℕ → ℕ → List (List Complex) → After Applied
 gate_call s work q0 q1 gate =
     let k = gate_refusal s work q0 q1 gate in
-    cond (eqb k 0) (gate_after (gate_reason gate q0 q1 s) (gate_run gate q0 q1 s) (cleared s.chain work)) (after (applied.Refused k) s work)
+    cond (eqb k 0) (gate_after (gate_reason gate q0 q1 s) (gate_run gate q0 q1 s) (cleared s.chain work)) (after (Err k) s work)
 
 unfoldable pub named_gate_call : State → List Float → ℕ → ℕ → NamedGate → After Applied
 named_gate_call s work q0 q1 name = gate_call s work q0 q1 (matrix_of name)
@@ -125,12 +118,12 @@ abbrev pub measure_run : ℕ → ℕ → Float → State → List Float → Afte
 measure_run k flag draw s work =
     let t = readied k s in
     let b = drawn_at k draw t in
-    after (measured.Bit b) (flagged flag b (projected_at k b t)) work
+    after (Ok b) (flagged flag b (projected_at k b t)) work
 
 unfoldable pub measure_call : State → List Float → ℕ → ℕ → Float → After Measured
 measure_call s work q flag draw =
     let k = measure_refusal s work q flag draw in
-    cond (eqb k 0) (measure_run (site_of s.chain q) flag draw s (cleared s.chain work)) (after (measured.Refused k) s work)
+    cond (eqb k 0) (measure_run (site_of s.chain q) flag draw s (cleared s.chain work)) (after (Err k) s work)
 
 -- ---- reset of a qubit, by a draw
 
@@ -138,12 +131,12 @@ abbrev pub reset_refusal : State → List Float → ℕ → Float → ℕ
 reset_refusal s work q draw = first_of (not (sound s.chain)) (short s.chain s.store work) (outside s.chain q) (not (share01 draw))
 
 abbrev pub reset_run : ℕ → Float → State → List Float → After Answer
-reset_run k draw s work = let t = readied k s in after answer.Done (reset_at k (drawn_at k draw t) t) work
+reset_run k draw s work = let t = readied k s in after (Ok tt) (reset_at k (drawn_at k draw t) t) work
 
 unfoldable pub reset_call : State → List Float → ℕ → Float → After Answer
 reset_call s work q draw =
     let k = reset_refusal s work q draw in
-    cond (eqb k 0) (reset_run (site_of s.chain q) draw s (cleared s.chain work)) (after (answer.Refused k) s work)
+    cond (eqb k 0) (reset_run (site_of s.chain q) draw s (cleared s.chain work)) (after (Err k) s work)
 
 -- ---- environments: the record and the store are only read
 
@@ -166,10 +159,10 @@ env_refusal s work out end site =
 
 -- the environment from the result slice's start on, the rest as it was
 abbrev pub env_run : Env → Chain → List Float → List Float → Walked
-env_run e c work out = walked (contracted.Dim e.dim) (cleared c work) (e.entries ++ drop (length e.entries) out)
+env_run e c work out = walked (Ok e.dim) (cleared c work) (e.entries ++ drop (length e.entries) out)
 
 abbrev pub env_after : ℕ → Env → State → List Float → List Float → Walked
-env_after k e s work out = cond (eqb k 0) (env_run e s.chain work out) (walked (contracted.Refused k) work out)
+env_after k e s work out = cond (eqb k 0) (env_run e s.chain work out) (walked (Err k) work out)
 
 unfoldable pub left_environment_call : State → List Float → List Float → ℕ → ℕ → Walked
 left_environment_call s work out from site = env_after (env_refusal s work out from site) (left_env from site s) s work out

@@ -1,7 +1,6 @@
 -- The chain record read, built, and changed one group of fields at a time. The fields are those of the Rust's MpsBackend.
-use Rattle.std.specs.Prelude.{ℕ, ◌+◌, Bool, List, Float, get_or, set}
+use Rattle.std.specs.Prelude.{ℕ, ◌+◌, Bool, List, Float, get_or, set, Option}
 use Rattle.std.specs.Float.{nan}
-use Rattle.model.specs.declared.Center.{Center}
 use Rattle.model.specs.declared.Chain.{Chain}
 
 -- ---- read
@@ -64,7 +63,7 @@ cut_totals_of c = record { high_water = c.bond_high_water; discarded = c.truncat
 
 -- ---- built: the one place that names every field of the record
 
-abbrev pub built : ChainSettings → ChainBonds → Labels → List Bool → Center → CutTotals → Chain
+abbrev pub built : ChainSettings → ChainBonds → Labels → List Bool → Option ℕ → CutTotals → Chain
 built settings bonds labels bits at totals = record {
   num_qubits = settings.qubits;
   max_bond_dim = settings.cap;
@@ -84,7 +83,7 @@ built settings bonds labels bits at totals = record {
 
 -- ---- changed
 
-abbrev pub with_center : Chain → Center → Chain
+abbrev pub with_center : Chain → Option ℕ → Chain
 with_center c at = built (settings_of c) (bonds_of c) (labels_of c) c.classical_bits at (cut_totals_of c)
 
 -- the bond between sites k and k + 1

@@ -1,5 +1,5 @@
 -- A gate on two neighbouring sites and the cut between them (cut_adjacent_pair, apply_adjacent_two_qubit), with the reason of its rank.
-use Rattle.std.specs.Prelude.{ℕ, ◌+◌, ◌^◌, max, Bool, true, false, not, ◌&&◌, ◌||◌, cond, List, leb, ltb, set, Float}
+use Rattle.std.specs.Prelude.{ℕ, ◌+◌, ◌^◌, max, Bool, true, false, not, ◌&&◌, ◌||◌, cond, List, leb, ltb, set, Float, Option, None, Some}
 use Rattle.std.specs.Float.Ieee.{lt}
 use Rattle.complex.specs.Complex.{zero_f}
 use Rattle.complex.specs.declared.Complex.{Complex}
@@ -11,14 +11,12 @@ use Rattle.model.specs.Svd.{Svd, values, raw_value, any_nan}
 use Rattle.model.specs.Truncation.{rank, rank_reason, resolvable, share, recorded, cut_rank, workspace}
 use Rattle.model.specs.Pair.{pair_svd, left_site, right_site}
 use Rattle.model.specs.Moves.{pair_stored, established, Prepared, prepared, prepared_on}
-use Rattle.model.specs.declared.Center.{Center}
-use Rattle.model.specs.declared.Center.TheVariants.{Unknown, At}
 use Rattle.model.specs.declared.WeightSide.{WeightSide}
 use Rattle.model.specs.declared.WeightSide.TheVariants.{Left, Right}
 
-abbrev pub known : Center → Bool
-known Unknown = false
-known (At k) = true
+abbrev pub known : Option ℕ → Bool
+known None = false
+known (Some k) = true
 
 -- a cut of so many values can reach the cap, or drop values under a threshold where bonds have reached 128 (cut_can_lose)
 abbrev pub can_lose : Chain → ℕ → Bool
@@ -69,7 +67,7 @@ cut_recorded k chi shares c =
 abbrev pub cut_stored : ℕ → Bool → WeightSide → State → Svd → ℕ → State
 cut_stored k maintained side s d chi =
     let t = pair_stored k (left_site side (lefts s k) chi d) chi (right_site side chi (rights s (k + 1)) d) s in
-    held (with_center (cut_recorded k chi (share (values d) chi) t.chain) (cond maintained (At (weight_site side k)) s.chain.center)) t.store
+    held (with_center (cut_recorded k chi (share (values d) chi) t.chain) (cond maintained (Some (weight_site side k)) s.chain.center)) t.store
 
 -- 7 at a NaN among the values; again where weight would be lost without a centre; else stored
 abbrev pub concluded : ℕ → Bool → WeightSide → State → Svd → Tried

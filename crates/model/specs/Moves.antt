@@ -1,5 +1,5 @@
 -- Moves of the orthogonality centre by QR steps (Schollwöck 2011, 4.4; shift_center_right, shift_center_left, move_center, establish_center, prepare_center).
-use Rattle.std.specs.Prelude.{ℕ, zero, suc, ◌+◌, ◌-◌, ◌*◌, cond, List, leb, Float}
+use Rattle.std.specs.Prelude.{ℕ, zero, suc, ◌+◌, ◌-◌, ◌*◌, cond, List, leb, Float, Option, None, Some}
 use Rattle.complex.specs.Complex.{mul_c, conj_c, zero_c}
 use Rattle.complex.specs.Loops.{sum_c}
 use Rattle.complex.specs.Numbers.{at, numbers}
@@ -9,8 +9,6 @@ use Rattle.model.specs.Chain.{with_bond, with_center}
 use Rattle.model.specs.Slots.{State, held, lefts, rights, site_at, with_site}
 use Rattle.model.specs.Qr.{Kept, qr, entry_at}
 use Rattle.model.specs.Pair.{isometry_site, vt_site}
-use Rattle.model.specs.declared.Center.{Center}
-use Rattle.model.specs.declared.Center.TheVariants.{Unknown, At}
 use Rattle.model.specs.declared.WeightSide.{WeightSide}
 use Rattle.model.specs.declared.WeightSide.TheVariants.{Left, Right}
 
@@ -77,7 +75,7 @@ walk_left zero k s = s
 walk_left (suc n) k s = walk_left n (k - 1) (step_left (k - 1) s)
 
 abbrev pub centered : ℕ → State → State
-centered to s = held (with_center s.chain (At to)) s.store
+centered to s = held (with_center s.chain (Some to)) s.store
 
 -- the centre goes from one site to another (move_center)
 unfoldable pub moved : ℕ → ℕ → State → State
@@ -90,9 +88,9 @@ established to s =
     cond (leb (2 * to) last) (moved 0 to (moved last 0 s)) (moved last to (moved 0 last s))
 
 -- the centre onto site k, from where it is (born_weights)
-abbrev pub centered_on : ℕ → Center → State → State
-centered_on k Unknown s = established k s
-centered_on k (At from) s = moved from k s
+abbrev pub centered_on : ℕ → Option ℕ → State → State
+centered_on k None s = established k s
+centered_on k (Some from) s = moved from k s
 
 -- the centre onto the pair k, k + 1, and the side that the cut shall leave it on (prepare_center)
 pub record Prepared : Type 0 where
@@ -102,6 +100,6 @@ pub record Prepared : Type 0 where
 abbrev pub prepared : WeightSide → State → Prepared
 prepared side s = record { side = side; state = s }
 
-abbrev pub prepared_on : ℕ → Center → State → Prepared
-prepared_on k Unknown s = prepared Right (established k s)
-prepared_on k (At from) s = cond (leb from k) (prepared Right (moved from k s)) (prepared Left (moved from (k + 1) s))
+abbrev pub prepared_on : ℕ → Option ℕ → State → Prepared
+prepared_on k None s = prepared Right (established k s)
+prepared_on k (Some from) s = cond (leb from k) (prepared Right (moved from k s)) (prepared Left (moved from (k + 1) s))

@@ -1,11 +1,9 @@
 -- What a sound chain record is: document 01's sentence, as a computed test.
-use Rattle.std.specs.Prelude.{ℕ, ◌+◌, ◌-◌, Bool, true, ◌&&◌, ◌||◌, List, leb, ltb, eqb, length, get_or, Float}
+use Rattle.std.specs.Prelude.{ℕ, ◌+◌, ◌-◌, Bool, true, ◌&&◌, ◌||◌, List, leb, ltb, eqb, length, get_or, Float, Option, None, Some}
 use Rattle.std.specs.Float.{nan, binary64}
 use Rattle.std.specs.Float.Ieee.{le, lt, to_bits}
 use Rattle.complex.specs.Complex.{zero_f, one_f}
 use Rattle.complex.specs.Loops.{every}
-use Rattle.model.specs.declared.Center.{Center}
-use Rattle.model.specs.declared.Center.TheVariants.{Unknown, At}
 use Rattle.model.specs.declared.Chain.{Chain}
 use Rattle.model.specs.Chain.{bond_left, bond_right}
 
@@ -38,9 +36,9 @@ bonds_fit c =
 unfoldable pub undoes : ℕ → List ℕ → List ℕ → Bool
 undoes n there back = every 64 (λ i. entry_fits n there (λ s. ltb s n && eqb (get_or back s 0) i) i)
 
-abbrev pub center_fits : Center → ℕ → Bool
-center_fits Unknown n = true
-center_fits (At k) n = ltb k n
+abbrev pub center_fits : Option ℕ → ℕ → Bool
+center_fits None n = true
+center_fits (Some k) n = ltb k n
 
 -- the discarded weights past the last bond, that between n - 2 and n - 1, are +0, whose bits are 0; the others are free (document 02, W6)
 unfoldable pub discarded_fits : ℕ → List Float → Bool

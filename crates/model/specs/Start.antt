@@ -1,9 +1,8 @@
 -- The record and the store of a fresh chain (init of MpsBackend): every qubit 0, every bond 1, no centre; and the all-zero record that a refused start hands back.
-use Rattle.std.specs.Prelude.{ℕ, false, cond, List, [], ◌∷◌, ◌++◌, ltb, drop, replicate, Float}
+use Rattle.std.specs.Prelude.{ℕ, false, cond, List, [], ◌∷◌, ◌++◌, ltb, drop, replicate, Float, None}
 use Rattle.complex.specs.Complex.{zero_f, one_f}
 use Rattle.complex.specs.Loops.{tabulate}
 use Rattle.complex.specs.Matrix.{rows}
-use Rattle.model.specs.declared.Center.TheVariants.{Unknown}
 use Rattle.model.specs.declared.Chain.{Chain}
 use Rattle.model.specs.Chain.{ChainSettings, built}
 use Rattle.model.specs.Slots.{slot_room, store_room, filled}
@@ -15,7 +14,7 @@ up_to n f = tabulate 64 (λ i. cond (ltb i n) (f i) 0)
 -- a record with no flag set, no centre and nothing discarded, at no bond; the bonds left and right of the sites are one list, and so are the two label maps
 abbrev pub start_chain : ChainSettings → List ℕ → List ℕ → ℕ → Chain
 start_chain settings bonds labels high =
-    built settings (record { left = bonds; right = bonds }) (record { sites = labels; qubits = labels }) (replicate 64 false) Unknown
+    built settings (record { left = bonds; right = bonds }) (record { sites = labels; qubits = labels }) (replicate 64 false) None
     (record { high_water = high; discarded = zero_f; by_bond = replicate 63 zero_f })
 
 unfoldable pub fresh_chain : ℕ → ℕ → Float → Float → ℕ → Chain

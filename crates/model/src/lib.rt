@@ -3,16 +3,10 @@
 
 use complex::Complex;
 
-// The site the chain is canonical about, if one is recorded.
-#[derive(Clone, Copy)]
-pub enum Center {
-    Unknown,
-    At(usize),
-}
-
 // The chain record: settings, bonds of each site, label maps, classical flags, centre, and what the cuts left.
 // The fields are named as in the Rust, which has no bond_discarded. Bonds and labels are bytes: a bond is at most 128, a
-// label below 64. Entry k of bond_discarded is the weight that the cuts at the bond between sites k and k + 1 discarded.
+// label below 64. The centre is the site the chain is canonical about, if one is recorded. Entry k of bond_discarded is
+// the weight that the cuts at the bond between sites k and k + 1 discarded.
 #[derive(Clone, Copy)]
 pub struct Chain {
     pub num_qubits: usize,
@@ -25,7 +19,7 @@ pub struct Chain {
     pub logical_to_site: [u8; 64],
     pub site_to_logical: [u8; 64],
     pub classical_bits: [bool; 64],
-    pub center: Center,
+    pub center: Option<usize>,
     pub bond_high_water: usize,
     pub truncation_discarded: f64,
     pub bond_discarded: [f64; 63],
@@ -38,13 +32,6 @@ pub enum WeightSide {
     Right,
 }
 
-// What start and reset answer.
-#[derive(Clone, Copy)]
-pub enum Answer {
-    Done,
-    Refused(u8),
-}
-
 // Why a cut keeps as many singular values as it does: raised to 1; lowered to the cap; those above the tolerance, and
 // not all; all.
 #[derive(Clone, Copy)]
@@ -55,12 +42,19 @@ pub enum Reason {
     Full,
 }
 
+// ---- answers. A refusal is a number: the papers number the refusals, and the number is what is promised and printed.
+
+// What start and reset answer.
+pub type Answer = Result<(), u8>;
+
 // What a gate answers: the reason of its last cut.
-#[derive(Clone, Copy)]
-pub enum Applied {
-    Done(Reason),
-    Refused(u8),
-}
+pub type Applied = Result<Reason, u8>;
+
+// What a measurement answers: its bit.
+pub type Measured = Result<bool, u8>;
+
+// What an environment walk answers: the dimension of the environment that it wrote.
+pub type Contracted = Result<usize, u8>;
 
 // What a projection answers: the weight of the kept branch, or nothing where the branch has none.
 #[derive(Clone, Copy)]
@@ -70,50 +64,22 @@ pub enum Projected {
     Refused(u8),
 }
 
-// What a measurement answers.
+// A call's answer, with the chain as the call leaves it.
 #[derive(Clone, Copy)]
-pub enum Measured {
-    Bit(bool),
-    Refused(u8),
-}
-
-// What an environment walk answers: the dimension of the environment that it wrote.
-#[derive(Clone, Copy)]
-pub enum Contracted {
-    Dim(usize),
-    Refused(u8),
-}
-
-// Each call's answer, with the chain as the call leaves it.
-#[derive(Clone, Copy)]
-pub struct Start {
-    pub answer: Answer,
+pub struct After<A> {
+    pub answer: A,
     pub chain: Chain,
 }
 
-#[derive(Clone, Copy)]
-pub struct Gated {
-    pub answer: Applied,
-    pub chain: Chain,
-}
+pub type Start = After<Answer>;
 
-#[derive(Clone, Copy)]
-pub struct Projection {
-    pub answer: Projected,
-    pub chain: Chain,
-}
+pub type Gated = After<Applied>;
 
-#[derive(Clone, Copy)]
-pub struct Measurement {
-    pub answer: Measured,
-    pub chain: Chain,
-}
+pub type Projection = After<Projected>;
 
-#[derive(Clone, Copy)]
-pub struct Reset {
-    pub answer: Answer,
-    pub chain: Chain,
-}
+pub type Measurement = After<Measured>;
+
+pub type Reset = After<Answer>;
 
 // Two columns of a matrix: the sums of their squared moduli, and of conj(p) times q.
 #[derive(Clone, Copy)]

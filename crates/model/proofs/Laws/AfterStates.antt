@@ -1,7 +1,7 @@
 -- What every call leaves of its record and slices, whatever it answers.
 use Prim.Native.Nat.{ℕ, ◌*◌, ◌≤◌, ◌<◌, min, max}
 use native.Mathlib.Omega.{arith}
-use Rattle.std.specs.Prelude.{◌≡◌, ◌≢◌, Bool, true, false, not, ◌||◌, cond, List, [], ◌∷◌, eqb, length, replicate, Float}
+use Rattle.std.specs.Prelude.{◌≡◌, ◌≢◌, Bool, true, false, not, ◌||◌, cond, List, [], ◌∷◌, eqb, length, replicate, Float, Option, None, Some, Ok, Err}
 use Rattle.std.proofs.Math.Path.{refl}
 use Rattle.std.proofs.Common.{inl, inr, length-append, length-drop}
 use Rattle.std.proofs.Math.Dec.{leb}
@@ -11,21 +11,15 @@ use Rattle.complex.specs.Complex.{zero_f}
 use Rattle.complex.specs.declared.Complex.{Complex}
 use Rattle.gates.specs.Named.{matrix_of}
 use Rattle.gates.specs.declared.NamedGate.{NamedGate}
-use Rattle.model.specs.declared.Center.{Center}
-use Rattle.model.specs.declared.Center.TheVariants.{Unknown, At}
 use Rattle.model.specs.declared.Chain.{Chain}
-use Rattle.model.specs.declared.Answer.TheVariants as answer
-use Rattle.model.specs.declared.Applied.TheVariants as applied
 use Rattle.model.specs.declared.Projected.TheVariants as projected
-use Rattle.model.specs.declared.Measured.TheVariants as measured
-use Rattle.model.specs.declared.Applied.{Applied}
 use Rattle.model.specs.Chain.{site_of}
 use Rattle.model.specs.Slots.{State, store_room, work_room}
 use Rattle.model.specs.Cut.{Ran, attempt, adjacent}
 use Rattle.model.specs.Moves.{established}
 use Rattle.model.specs.Routing.{Step, stepped, run_steps, gate_run, gate_reason}
 use Rattle.model.specs.Born.{readied, projected_at, reset_at, drawn_at}
-use Rattle.model.specs.Answers.{View, view_answer, view_applied, view_projected, view_measured}
+use Rattle.model.specs.Answers.{Applied, View, view_answer, view_applied, view_projected, view_measured}
 use Rattle.model.specs.Sound.{share01, sound}
 use Rattle.model.specs.Calls.{After, after, first_of, short, outside, cleared, flagged, gate_refusal, applied_of, gate_call, named_gate_call, project_refusal, project_answer, project_call, measure_refusal, measure_call, reset_refusal, reset_call}
 use Rattle.model.specs.Statements.Table.{gate_steps}
@@ -131,17 +125,17 @@ module _ {A : Type 0} (view : A → View) (s : State) (work : List Float) (near 
 
 -- ---- the range of a call
 
-own_reach : (c : Center) (n near far : ℕ) → near ≤ far → Reach n (lowest c near) (highest c n far) c
-own_reach Unknown n near far l = (refl, omega arith)
-own_reach (At k) n near far l = (omega arith, omega arith)
+own_reach : (c : Option ℕ) (n near far : ℕ) → near ≤ far → Reach n (lowest c near) (highest c n far) c
+own_reach None n near far l = (refl, omega arith)
+own_reach (Some k) n near far l = (omega arith, omega arith)
 
-lowest_near : (c : Center) (near : ℕ) → lowest c near ≤ near
-lowest_near Unknown near = omega arith
-lowest_near (At k) near = omega arith
+lowest_near : (c : Option ℕ) (near : ℕ) → lowest c near ≤ near
+lowest_near None near = omega arith
+lowest_near (Some k) near = omega arith
 
-far_highest : (c : Center) (n far : ℕ) → far < n → far ≤ highest c n far
-far_highest Unknown n far l = omega arith
-far_highest (At k) n far l = omega arith
+far_highest : (c : Option ℕ) (n far : ℕ) → far < n → far ≤ highest c n far
+far_highest None n far l = omega arith
+far_highest (Some k) n far l = omega arith
 
 -- ---- readings
 
@@ -204,7 +198,7 @@ module _ (s : State) (work : List Float) where
       let k = site_of s.chain q in
       let t = readied k s in
       let b = drawn_at k draw t in
-      call_leaves view_measured s work k k (measure_refusal s work q flag draw) (measured.Bit b) (measured.Refused (measure_refusal s work q flag draw)) (flagged flag b (projected_at k b t))
+      call_leaves view_measured s work k k (measure_refusal s work q flag draw) (Ok b) (Err (measure_refusal s work q flag draw)) (flagged flag b (projected_at k b t))
       (small (outside s.chain q || leb 64 flag) (not (share01 draw))) refl (inl refl)
       (λ e.
       let a = measure_passes s work q flag draw e in
@@ -217,7 +211,7 @@ module _ (s : State) (work : List Float) where
       let k = site_of s.chain q in
       let t = readied k s in
       let b = drawn_at k draw t in
-      call_leaves view_answer s work k k (reset_refusal s work q draw) answer.Done (answer.Refused (reset_refusal s work q draw)) (reset_at k b t)
+      call_leaves view_answer s work k k (reset_refusal s work q draw) (Ok tt) (Err (reset_refusal s work q draw)) (reset_at k b t)
       (small (outside s.chain q) (not (share01 draw))) refl (inl refl)
       (λ e.
       let a = reset_passes s work q draw e in
@@ -258,20 +252,20 @@ module _ (s : State) (work : List Float) where
     unfolding gate_call
     gate_leaves gate =
         let r = gate_run gate q0 q1 s in
-        call_leaves view_applied s work (min p q) (max p q) (gate_refusal s work q0 q1 gate) (applied_of (gate_reason gate q0 q1 s) r.refused) (applied.Refused (gate_refusal s work q0 q1 gate)) r.state
+        call_leaves view_applied s work (min p q) (max p q) (gate_refusal s work q0 q1 gate) (applied_of (gate_reason gate q0 q1 s) r.refused) (Err (gate_refusal s work q0 q1 gate)) r.state
         (gate_least s work q0 q1 gate) refl (rw (applied_number (gate_reason gate q0 q1 s) r.refused) (gate_run_late gate q0 q1 s))
         (λ e. let x = gate_accepted s work q0 q1 gate e in ((not_short s work x.long).scratch, (gate_rewrites gate x).apart))
 
     pub gate_unmoved : (gate : List (List Complex)) →
-        (let a = gate_call s work q0 q1 gate in a.chain.center ≡ Unknown → StoreLeft s.chain.num_qubits s.chain.max_bond_dim (min p q) (max p q) s.store a.store)
+        (let a = gate_call s work q0 q1 gate in a.chain.center ≡ None → StoreLeft s.chain.num_qubits s.chain.max_bond_dim (min p q) (max p q) s.store a.store)
     unfolding gate_call
     gate_unmoved gate =
-        by_test (λ (a : After Applied). a.chain.center ≡ Unknown → StoreLeft s.chain.num_qubits s.chain.max_bond_dim (min p q) (max p q) s.store a.store)
+        by_test (λ (a : After Applied). a.chain.center ≡ None → StoreLeft s.chain.num_qubits s.chain.max_bond_dim (min p q) (max p q) s.store a.store)
         (eqb (gate_refusal s work q0 q1 gate) 0) _ _ (λ e c. apart_left ((run_unmoved gate (gate_accepted s work q0 q1 gate e)).apart c)) (λ e c. record { slots = λ j o. refl; past = refl; long = refl })
 
     pub named_unmoved : (name : NamedGate) →
         (let a = named_gate_call s work q0 q1 name in
-        a.chain.center ≡ Unknown → StoreLeft s.chain.num_qubits s.chain.max_bond_dim (min p q) (max p q) s.store a.store)
+        a.chain.center ≡ None → StoreLeft s.chain.num_qubits s.chain.max_bond_dim (min p q) (max p q) s.store a.store)
     unfolding named_gate_call
     named_unmoved name = gate_unmoved (matrix_of name)
 

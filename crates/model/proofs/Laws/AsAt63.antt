@@ -1,16 +1,13 @@
 -- A workspace exponent from 63 to 255 shows nowhere but in its own field, as `Statements/Uncapped` states it: only soundness and a cut's refusal by 6 read it, and neither tells it from 63.
 use Prim.Native.Nat.{ℕ, zero, suc, ◌+◌, ◌-◌, ◌*◌, ◌≤◌, ◌<◌}
 use Rattle.std.proofs.Common.{arith, sym, ap₂, ◌∙◌}
-use Rattle.std.specs.Prelude.{◌≡◌, Bool, true, false, not, ◌&&◌, cond, leb, ltb, eqb, length, Float}
+use Rattle.std.specs.Prelude.{◌≡◌, Bool, true, false, not, ◌&&◌, cond, leb, ltb, eqb, length, Float, Option, None, Some, Ok, Err}
 use Rattle.std.proofs.Math.Path.{refl, ap}
 use mathlib.Core.List.{List, [], ◌∷◌, map}
 use borrow.Author.Tests.{le-leb, le-ltb}
 use Rattle.std.specs.Float.Ieee.{le}
 use Rattle.complex.specs.declared.Complex.{Complex}
 use Rattle.gates.specs.Named.{matrix_of}
-use Rattle.model.specs.declared.Answer.TheVariants as answer
-use Rattle.model.specs.declared.Center.{Center}
-use Rattle.model.specs.declared.Center.TheVariants.{Unknown, At}
 use Rattle.model.specs.declared.Chain.{Chain}
 use Rattle.model.specs.declared.WeightSide.TheVariants.{Left, Right}
 use Rattle.model.specs.Chain.{site_of}
@@ -55,7 +52,7 @@ sound_same e c byte byte' = rw (settings_same c.num_qubits c.max_bond_dim c.svd_
 
 module _ (n d : ℕ) (epsilon clamp : Float) (store : List Float) where
   -- the answer alone, without the record that holds the exponent
-  start_answer : (e : ℕ) → cond (not (settings_fit n d epsilon clamp e)) (answer.Refused 1) (cond (ltb (length store) (store_room n d)) (answer.Refused 2) answer.Done) ≡ (start_call n d epsilon clamp e store).answer
+  start_answer : (e : ℕ) → cond (not (settings_fit n d epsilon clamp e)) (Err 1) (cond (ltb (length store) (store_room n d)) (Err 2) (Ok tt)) ≡ (start_call n d epsilon clamp e store).answer
   unfolding start_call
   start_answer e = let f : Started → _ = λ a. a.answer in mapped f (not (settings_fit n d epsilon clamp e)) (λ t. refl) (mapped f (ltb (length store) (store_room n d)) (λ t. refl) refl)
 
@@ -86,9 +83,9 @@ module _ (e : ℕ) where
   readied_under : (k : ℕ) (s : State) → readied k (under e s) ≡ under e (readied k s)
   readied_under k s = from s.chain.center
     where
-      from : (at : Center) → centered_on k at (under e s) ≡ under e (centered_on k at s)
-      from Unknown = established_under k s
-      from (At j) = moved_under j k s
+      from : (at : Option ℕ) → centered_on k at (under e s) ≡ under e (centered_on k at s)
+      from None = established_under k s
+      from (Some j) = moved_under j k s
 
   abbrev prepared_under : Prepared → Prepared
   prepared_under p = prepared p.side (under e p.state)
@@ -96,9 +93,9 @@ module _ (e : ℕ) where
   prepared_for_under : (k : ℕ) (s : State) → prepared_for k (under e s) ≡ prepared_under (prepared_for k s)
   prepared_for_under k s = mapped prepared_under (keeps_centre k s) (λ t. from s.chain.center) refl
     where
-      from : (at : Center) → prepared_on k at (under e s) ≡ prepared_under (prepared_on k at s)
-      from Unknown = ap (prepared Right) (established_under k s)
-      from (At j) = mapped prepared_under (leb j k) (λ t. ap (prepared Right) (moved_under j k s)) (ap (prepared Left) (moved_under j (k + 1) s))
+      from : (at : Option ℕ) → prepared_on k at (under e s) ≡ prepared_under (prepared_on k at s)
+      from None = ap (prepared Right) (established_under k s)
+      from (Some j) = mapped prepared_under (leb j k) (λ t. ap (prepared Right) (moved_under j k s)) (ap (prepared Left) (moved_under j (k + 1) s))
 
   -- ---- a cut, which reads it in a test that fails from 63 on, and a run of cuts
 

@@ -1,8 +1,7 @@
 -- Proofs of (c) and (d) of `Statements/Demand1Sound`.
-use Rattle.std.specs.Prelude.{ℕ, ◌+◌, ◌<◌, ◌≡◌, ◌≢◌, true, List, [], ◌∷◌, T, Float}
+use Rattle.std.specs.Prelude.{ℕ, ◌+◌, ◌<◌, ◌≡◌, ◌≢◌, true, List, [], ◌∷◌, T, Float, Ok}
 use Rattle.std.proofs.Common.{arith}
 use Rattle.complex.specs.declared.Complex.{Complex}
-use Rattle.model.specs.declared.Answer.TheVariants as answer
 use Rattle.model.specs.declared.Chain.{Chain}
 use Rattle.model.specs.Slots.{State}
 use Rattle.model.specs.Moves.{established}
@@ -31,7 +30,7 @@ pub call_sound : (c : Call) (s : State) → T (sound s.chain) → T (sound (stat
 call_sound c s h = facts_sound (state_of c s).chain (call_keeps c s h).sound
 
 pub start_accepted_sound : (n d : ℕ) (epsilon clamp : Float) (exponent : ℕ) (store : List Float)
-    → (start_call n d epsilon clamp exponent store).answer ≡ answer.Done → T (sound (start_call n d epsilon clamp exponent store).chain)
+    → (start_call n d epsilon clamp exponent store).answer ≡ Ok tt → T (sound (start_call n d epsilon clamp exponent store).chain)
 start_accepted_sound n d epsilon clamp exponent store done = facts_sound _ (start_sound n d epsilon clamp exponent store done)
 
 -- so does a list of calls

@@ -1,10 +1,8 @@
 -- How a cut ends: refused by 6, refused by 7, or stored, with what it leaves; and steps, which are cuts with their labels.
-use Rattle.std.specs.Prelude.{ℕ, suc, ◌+◌, ◌^◌, ◌<◌, ◌≡◌, refl, ◌≢◌, Bool, true, false, not, ◌&&◌, ◌||◌, cond, List, ◌∷◌, T, ltb, eqb}
+use Rattle.std.specs.Prelude.{ℕ, suc, ◌+◌, ◌^◌, ◌<◌, ◌≡◌, refl, ◌≢◌, Bool, true, false, not, ◌&&◌, ◌||◌, cond, List, ◌∷◌, T, ltb, eqb, Option, None, Some}
 use Rattle.std.proofs.Common.{mul-le-mul, arith, sym, ap, ◌∙◌, subst, inl, inr, true≢false, eqb-true, le-leb}
 use Rattle.std.proofs.lemmas.Bool.{eqb-false}
 use Rattle.complex.specs.declared.Complex.{Complex}
-use Rattle.model.specs.declared.Center.{Center}
-use Rattle.model.specs.declared.Center.TheVariants.{Unknown, At}
 use Rattle.model.specs.declared.WeightSide.{WeightSide}
 use Rattle.model.specs.declared.WeightSide.TheVariants.{Left, Right}
 use Rattle.model.specs.Slots.{State, lefts, rights}
@@ -32,24 +30,24 @@ pub established_prepared : (k : ℕ) (s : State) → prepared_for k (established
 established_prepared k s =
     let t = established k s in
     let e = established_centre k s in
-    ap (λ (at : Center). cond (known at || can_lose t.chain (most_values k t)) (prepared_on k at t) (prepared Right t)) e
+    ap (λ (at : Option ℕ). cond (known at || can_lose t.chain (most_values k t)) (prepared_on k at t) (prepared Right t)) e
     ∙ ap (λ (b : Bool). cond b (prepared Right (moved k k t)) (prepared Left (moved k (k + 1) t))) (le-leb k k (omega arith))
     ∙ ap (prepared Right) (moved_still k t e)
 
 -- no centre is kept only where none is recorded, and one that was established is kept
-no_centre : (k : ℕ) (s : State) → (KeepsCentre k s → ⊥) → s.chain.center ≡ Unknown
+no_centre : (k : ℕ) (s : State) → (KeepsCentre k s → ⊥) → s.chain.center ≡ None
 no_centre k s none = cases s.chain.center refl
   where
-    cases : (at : Center) → s.chain.center ≡ at → at ≡ Unknown
-    cases Unknown e = refl
-    cases (At j) e = absurd (none (inl (j, e)))
+    cases : (at : Option ℕ) → s.chain.center ≡ at → at ≡ None
+    cases None e = refl
+    cases (Some j) e = absurd (none (inl (j, e)))
 
 keeps_established : (k : ℕ) (s : State) → keeps_centre k (established k s) ≡ true
 keeps_established k s = rw (established_centre k s)
 
 module _ (gate : List (List Complex)) (k : ℕ) (s : State) where
   -- what holds of every state in which a cut decomposes the pair
-  pub decomposed_by : (P : State → Type 0) → P (prepared_for k s).state → (s.chain.center ≡ Unknown → P (established k s)) → (t : State) → DecomposedIn gate k s t → P t
+  pub decomposed_by : (P : State → Type 0) → P (prepared_for k s).state → (s.chain.center ≡ None → P (established k s)) → (t : State) → DecomposedIn gate k s t → P t
   decomposed_by P first second t (inl x) = subst P (sym ((first_in k s t).0 x)) first
   decomposed_by P first second t (inr x) = subst P (sym x.1) (second (no_centre k s x.0.0))
 

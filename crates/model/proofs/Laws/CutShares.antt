@@ -9,9 +9,6 @@ use Rattle.std.specs.Float.{binary64}
 use Rattle.std.specs.Float.Ieee.{add}
 use Rattle.complex.specs.declared.Complex.{Complex}
 use Rattle.gates.specs.Named.{matrix_of}
-use Rattle.model.specs.declared.Answer.{Answer}
-use Rattle.model.specs.declared.Applied.{Applied}
-use Rattle.model.specs.declared.Measured.{Measured}
 use Rattle.model.specs.declared.Projected.{Projected}
 use Rattle.model.specs.declared.Chain.{Chain}
 use Rattle.model.specs.Chain.{site_of, labels_of, CutTotals, cut_totals_of}
@@ -21,7 +18,7 @@ use Rattle.model.specs.Truncation.{rank, share, recorded}
 use Rattle.model.specs.Cut.{rank_of, cut_recorded, Ran, ran, adjacent}
 use Rattle.model.specs.Routing.{Step, relabelled, follow, stepped, run_steps, gate_run, gate_reason}
 use Rattle.model.specs.Born.{drawn_at, readied}
-use Rattle.model.specs.Answers.{view_applied}
+use Rattle.model.specs.Answers.{Answer, Applied, Measured, view_applied}
 use Rattle.model.specs.Calls.{After, gate_refusal, gate_call, named_gate_call, project_refusal, project_call, measure_refusal, measure_call, reset_refusal, reset_call}
 use Rattle.model.specs.Lists.{Call, gate, named, project, measure, reset, left, state_of, final_state}
 use Rattle.model.specs.Statements.Table.{gate_steps}

@@ -1,21 +1,17 @@
 -- The statements of `Demand1`, proved: that Nothing is answered exactly where the outcome's weight is at most the clamp, here; the others in the files cited.
-use Rattle.std.specs.Prelude.{ℕ, ◌≡◌, ◌↔◌, Bool, true, false, not, ◌||◌, List, T, eqb, Float}
+use Rattle.std.specs.Prelude.{ℕ, ◌≡◌, ◌↔◌, Bool, true, false, not, ◌||◌, List, T, eqb, Float, Err}
 use Rattle.std.proofs.Common.{arith, sym, ◌∙◌, subst, inl}
 use Rattle.std.proofs.Math.Path.{refl, ap}
 use Rattle.std.proofs.Math.Bool.{cond}
 use Rattle.std.proofs.Math.Dec.{leb}
 use Rattle.std.specs.Float.Ieee.{le}
-use Rattle.model.specs.declared.Answer.{Answer}
-use Rattle.model.specs.declared.Answer.TheVariants as answer
-use Rattle.model.specs.declared.Measured.{Measured}
-use Rattle.model.specs.declared.Measured.TheVariants as measured
 use Rattle.model.specs.declared.Projected.{Projected}
 use Rattle.model.specs.declared.Projected.TheVariants as projected
 use Rattle.model.specs.Chain.{site_of}
 use Rattle.model.specs.Slots.{State}
 use Rattle.model.specs.Born.{weight_at, total_at, drawn_at, projected_at, reset_at, readied}
 use Rattle.model.specs.Sound.{share01, sound}
-use Rattle.model.specs.Answers.{view_answer, view_projected, view_measured}
+use Rattle.model.specs.Answers.{Answer, Measured, view_answer, view_projected, view_measured}
 use Rattle.model.specs.Calls.{After, after, short, outside, cleared, project_refusal, project_run, project_call, measure_refusal, measure_run, measure_call, reset_refusal, reset_run, reset_call}
 use Rattle.model.specs.Statements.Demand1.{NothingExactly, Numbered, Remains, Clamped}
 use Rattle.model.proofs.Laws.SoundKept.{readied_keeps}
@@ -106,7 +102,7 @@ module _ (s : State) (work : List Float) where
         let four = outside s.chain q || leb 64 flag in
         let refusal = measure_refusal s work q flag draw in
         let run = measure_run site flag draw s (cleared s.chain work) in
-        let back = after (measured.Refused refusal) s work in
+        let back = after (Err refusal) s work in
         let e' = run_late (λ (a : After Measured). (view_measured a.answer).number) refusal run back refl
         (first_of_least (not (sound s.chain)) (short s.chain s.store work) four (not (share01 draw))) (inl e) in
         ap (λ (x : Bool). (cond x run back).store) e'
@@ -117,7 +113,7 @@ module _ (s : State) (work : List Float) where
     reset_clamped e h =
         let refusal = reset_refusal s work q draw in
         let run = reset_run site draw s (cleared s.chain work) in
-        let back = after (answer.Refused refusal) s work in
+        let back = after (Err refusal) s work in
         let e' = run_late (λ (a : After Answer). (view_answer a.answer).number) refusal run back refl
         (first_of_least (not (sound s.chain)) (short s.chain s.store work) (outside s.chain q) (not (share01 draw))) (inl e) in
         ap (λ (x : Bool). (cond x run back).store) e' ∙ ap (λ (u : State). u.store) (reset_at_clamped site b ready (same_clamp (reset_passes s work q draw e') h))

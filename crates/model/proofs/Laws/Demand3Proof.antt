@@ -1,5 +1,5 @@
 -- DEMAND 3, proved: the chain refuses as the machine does, an accepted call answers as the machine does and leaves the chain following it, and so does a list of calls from a fresh chain.
-use Rattle.std.specs.Prelude.{◌≡◌, Bool, not, ◌&&◌, ◌||◌, ◌≢◌, T, length, get_or, Float}
+use Rattle.std.specs.Prelude.{◌≡◌, Bool, not, ◌&&◌, ◌||◌, ◌≢◌, T, length, get_or, Float, Err}
 use Rattle.std.proofs.Math.Path.{refl, ap, subst}
 use Rattle.std.proofs.Common.{sym, ◌∙◌, lit≤}
 use Rattle.std.proofs.Math.Bool.{true, false, not-not, cond}
@@ -24,10 +24,7 @@ use Rattle.gates.specs.Named.{matrix_of, named_entry}
 use Rattle.gates.specs.declared.NamedGate.{NamedGate}
 use Rattle.gates.specs.declared.NamedGate.TheVariants.{Swap, Cx, Cz}
 use Rattle.model.specs.declared.Chain.{Chain}
-use Rattle.model.specs.declared.Answer.TheVariants as answer
-use Rattle.model.specs.declared.Applied.TheVariants as applied
 use Rattle.model.specs.declared.Projected.TheVariants as projected
-use Rattle.model.specs.declared.Measured.TheVariants as measured
 use Rattle.model.specs.Chain.{site_of, qubit_at}
 use Rattle.model.specs.Slots.{State, held, slot_room, store_room, work_room, site_at}
 use Rattle.model.specs.Cut.{Ran}
@@ -240,7 +237,7 @@ module _ (S : Setup) (D : Fit S) where
     gate_follows : (q0 q1 : ℕ) (g : List (List Complex)) (work : List Float) → (number_of (gate q0 q1 g work) ≡ 0 → Moves g) → CallFollows (gate q0 q1 g work) s M
     unfolding gate_call reply next refusal
     gate_follows q0 q1 g work G =
-        refused_or_run view_applied applied.Refused (λ k. refl) (gate q0 q1 g work) s M t work (gate_after (gate_reason g q0 q1 s) (gate_run g q0 q1 s) (cleared s.chain work))
+        refused_or_run view_applied Err (λ k. refl) (gate q0 q1 g work) s M t work (gate_after (gate_reason g q0 q1 s) (gate_run g q0 q1 s) (cleared s.chain work))
         (λ z. gate_runs q0 q1 g (G z) (two_qubits S.qubits q0 q1 (none_refuses (too_short S.qubits S.cap S.long (length work)) _ (no_gate g) z).0) (cleared s.chain work))
         (gate_refusal s work q0 q1 g) (gate_refusal_lem S s t.tracked.same h q0 q1 g work)
 
@@ -248,7 +245,7 @@ module _ (S : Setup) (D : Fit S) where
     unfolding named_gate_call gate_call project_call measure_call reset_call reply next refusal
     call_follows (gate q0 q1 g work) f a = gate_follows q0 q1 g work (allowed_moves S.qubits S.cap S.long q0 q1 g work f a)
     call_follows (named q0 q1 name work) f a =
-        refused_or_run view_applied applied.Refused (λ k. refl) (named q0 q1 name work) s M t work (gate_after (gate_reason (matrix_of name) q0 q1 s) (gate_run (matrix_of name) q0 q1 s) (cleared s.chain work))
+        refused_or_run view_applied Err (λ k. refl) (named q0 q1 name work) s M t work (gate_after (gate_reason (matrix_of name) q0 q1 s) (gate_run (matrix_of name) q0 q1 s) (cleared s.chain work))
         (λ z. gate_runs q0 q1 (matrix_of name) (named_moves name)
         (two_qubits S.qubits q0 q1 (none_refuses (too_short S.qubits S.cap S.long (length work)) _ false z).0) (cleared s.chain work))
         (gate_refusal s work q0 q1 (matrix_of name)) (named_refusal S s t.tracked.same h q0 q1 name work)
@@ -262,13 +259,13 @@ module _ (S : Setup) (D : Fit S) where
         kept_view true = refl
         kept_view false = refl
     call_follows (measure q flag draw work) f a =
-        refused_or_run view_measured measured.Refused (λ k. refl) (measure q flag draw work) s M t work (measure_run (site_of s.chain q) flag draw s (cleared s.chain work))
+        refused_or_run view_measured Err (λ k. refl) (measure q flag draw work) s M t work (measure_run (site_of s.chain q) flag draw s (cleared s.chain work))
         (λ z. let x = none_refuses (too_short S.qubits S.cap S.long (length work)) (leb S.qubits q || ltb 63 flag) (no_draw draw) z in
         let Q = leb-false S.qubits q (neither (leb S.qubits q) (ltb 63 flag) x.0).0 in
         (ap (λ (b : Bool). accepted (bit b)) (drawn_at_lem s M t q Q draw (fraction draw f x.1) ∙ bit_is s M t q Q), flag_following s M t q Q flag _ _))
         (measure_refusal s work q flag draw) (measure_refusal_lem S s t.tracked.same h q flag draw work)
     call_follows (reset q draw work) f a =
-        refused_or_run view_answer answer.Refused (λ k. refl) (reset q draw work) s M t work (reset_run (site_of s.chain q) draw s (cleared s.chain work))
+        refused_or_run view_answer Err (λ k. refl) (reset q draw work) s M t work (reset_run (site_of s.chain q) draw s (cleared s.chain work))
         (λ z. let x = none_refuses (too_short S.qubits S.cap S.long (length work)) (leb S.qubits q) (no_draw draw) z in
         let Q = leb-false S.qubits q x.0 in
         (refl, reset_following s M t q Q draw (fraction draw f x.1)))

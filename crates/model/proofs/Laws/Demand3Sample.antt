@@ -1,6 +1,6 @@
 -- Demand 3 has instances: three qubits, cap 1; gates by name and a gate by matrix whose entries are i, a projection kept and one that finds nothing, a measurement, a refused call, a reset.
 -- So has its product clause: two gates and their product with zeros of the other sign, and three gates whose product is a named one.
-use Rattle.std.specs.Prelude.{◌≡◌, refl, Bool, true, false, cond, ℕ, ◌+◌, T, eqb, replicate, negsuc, Float}
+use Rattle.std.specs.Prelude.{◌≡◌, refl, Bool, true, false, cond, ℕ, ◌+◌, T, eqb, replicate, negsuc, Float, Ok}
 use Rattle.std.proofs.Common.{◌∙◌, lit≤}
 use mathlib.Core.List.{List, [], ◌∷◌, ◌++◌, head-eq_of_cons-eq}
 use Rattle.std.specs.Float.{fin}
@@ -11,7 +11,6 @@ use Rattle.complex.specs.declared.Complex.{Complex}
 use Rattle.gates.specs.Gate.{entry, gate_of}
 use Rattle.gates.specs.Named.{matrix_of, named_entry}
 use Rattle.gates.specs.declared.NamedGate.TheVariants.{Swap, Cx, Cz}
-use Rattle.model.specs.declared.Answer.TheVariants as answer
 use Rattle.model.specs.Slots.{State, held}
 use Rattle.model.specs.Sound.{settings_fit}
 use Rattle.model.specs.Answers.{accepted, refused, none, weight, nothing, bit}
@@ -56,7 +55,7 @@ calls_allowed : T (all_allowed 3 1 12 calls)
 unfolding refusal monomial every each is_zero is_phase equals eq matrix_of gate_of named_entry of_bits neg lt le
 calls_allowed = tt
 
-start_done : (start_call 3 1 small small 5 store).answer ≡ answer.Done
+start_done : (start_call 3 1 small small 5 store).answer ≡ Ok tt
 unfolding start_call settings_fit le lt eq of_bits
 start_done = refl
 
@@ -91,7 +90,7 @@ chain_answers : answers_of calls started
 chain_answers = sample.0 ∙ machine_answers_lem
 
 -- and so it does under the largest exponent
-start_uncapped : (start_call 3 1 small small 255 store).answer ≡ answer.Done
+start_uncapped : (start_call 3 1 small small 255 store).answer ≡ Ok tt
 unfolding start_call settings_fit le lt eq of_bits
 start_uncapped = refl
 

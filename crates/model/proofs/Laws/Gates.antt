@@ -1,5 +1,5 @@
 -- A gate: the number that it answers, by its table; that it is done or stops at a cut, the proof of (f); and the labels after any call.
-use Rattle.std.specs.Prelude.{ℕ, ◌≤◌, ◌+◌, ◌<◌, ◌≡◌, ◌⊎◌, ◌≢◌, ◌||◌, Bool, true, false, List, [], ◌∷◌, ◌++◌, eqb, Float}
+use Rattle.std.specs.Prelude.{ℕ, ◌≤◌, ◌+◌, ◌<◌, ◌≡◌, ◌⊎◌, ◌≢◌, ◌||◌, Bool, true, false, List, [], ◌∷◌, ◌++◌, eqb, Float, Err}
 use Rattle.std.proofs.Math.Path.{refl, ap, subst}
 use Rattle.std.proofs.Common.{sym, ◌∙◌, inl, inr, ⊎_elim, arith, ne_eqb}
 use Rattle.std.proofs.Math.Bool.{cond}
@@ -9,12 +9,10 @@ use Rattle.gates.specs.Named.{matrix_of}
 use Rattle.gates.specs.declared.NamedGate.{NamedGate}
 use Rattle.model.specs.declared.Chain.{Chain}
 use Rattle.model.specs.declared.Reason.{Reason}
-use Rattle.model.specs.declared.Applied.{Applied}
-use Rattle.model.specs.declared.Applied.TheVariants as applied
 use Rattle.model.specs.Chain.{Labels, labels_of}
 use Rattle.model.specs.Slots.{State}
 use Rattle.model.specs.Routing.{gate_run, gate_reason, Step, stepped, run_steps}
-use Rattle.model.specs.Answers.{view_applied}
+use Rattle.model.specs.Answers.{Applied, view_applied}
 use Rattle.model.specs.Calls.{After, outside, cleared, gate_refusal, gate_after, gate_call, named_gate_call, after, applied_of}
 use Rattle.model.specs.Cut.{Ran}
 use Rattle.model.specs.Lists.{Call, gate, named, project, measure, reset, state_of, answer_of}
@@ -180,12 +178,12 @@ module _ (s : State) (work : List Float) (q0 q1 : ℕ) (g : List (List Complex))
   pub gate_ran : Late number → eqb (gate_refusal s work q0 q1 g) 0 ≡ true
   unfolding gate_call
   gate_ran l =
-      run_late (λ (a : After Applied). (view_applied a.answer).number) (gate_refusal s work q0 q1 g) (gate_after (gate_reason g q0 q1 s) (gate_run g q0 q1 s) (cleared s.chain work)) (after (applied.Refused (gate_refusal s work q0 q1 g)) s work)
+      run_late (λ (a : After Applied). (view_applied a.answer).number) (gate_refusal s work q0 q1 g) (gate_after (gate_reason g q0 q1 s) (gate_run g q0 q1 s) (cleared s.chain work)) (after (Err (gate_refusal s work q0 q1 g)) s work)
       refl (gate_least s work q0 q1 g) l
 
   pub gate_is_run : eqb (gate_refusal s work q0 q1 g) 0 ≡ true → gate_call s work q0 q1 g ≡ gate_after (gate_reason g q0 q1 s) (run_steps (gate_steps s q0 q1 g) s) (cleared s.chain work)
   unfolding gate_call gate_run
-  gate_is_run e = ap (λ (b : Bool). cond b (gate_after (gate_reason g q0 q1 s) (gate_run g q0 q1 s) (cleared s.chain work)) (after (applied.Refused (gate_refusal s work q0 q1 g)) s work)) e
+  gate_is_run e = ap (λ (b : Bool). cond b (gate_after (gate_reason g q0 q1 s) (gate_run g q0 q1 s) (cleared s.chain work)) (after (Err (gate_refusal s work q0 q1 g)) s work)) e
 
   pub run_number : eqb (gate_refusal s work q0 q1 g) 0 ≡ true → (run_steps (gate_steps s q0 q1 g) s).refused ≡ number
   run_number e = sym (ap (λ (a : After Applied). (view_applied a.answer).number) (gate_is_run e) ∙ applied_number (gate_reason g q0 q1 s) (run_steps (gate_steps s q0 q1 g) s).refused)

@@ -1,6 +1,6 @@
 -- What a move of the centre leaves as it was: no bond grows, only the bonds and the slots between its two ends change, and of the record nothing else but the centre.
 use Prim.Native.Nat.{ℕ, zero, suc, ◌+◌, ◌-◌, ◌*◌, ◌≤◌, ◌<◌, min, max}
-use Rattle.std.specs.Prelude.{◌≡◌, ◌⊎◌, List, leb, length, Float}
+use Rattle.std.specs.Prelude.{◌≡◌, ◌⊎◌, List, leb, length, Float, Option, None, Some}
 use Rattle.std.proofs.Math.Path.{refl}
 use Rattle.std.proofs.Common.{sym, ap, ◌∙◌, ⊎_elim, inl, inr, mul-le-mul, mul-le-mul_right, arith, length-append, get_or-set_other}
 use Rattle.std.proofs.lemmas.List.{length-replicate}
@@ -8,8 +8,6 @@ use Rattle.complex.specs.Parts.{length_put, part_put_before, part_put_after, dro
 use Rattle.complex.specs.Numbers.{numbers, length_numbers}
 use Rattle.complex.specs.Matrix.{rows, length_rows}
 use Rattle.complex.specs.declared.Complex.{Complex}
-use Rattle.model.specs.declared.Center.{Center}
-use Rattle.model.specs.declared.Center.TheVariants.{Unknown, At}
 use Rattle.model.specs.declared.Chain.{Chain}
 use Rattle.model.specs.Chain.{with_center, with_bond}
 use Rattle.model.specs.Slots.{State, held, lefts, rights, site_at, slot_room, store_room, filled, with_site}
@@ -238,9 +236,9 @@ module _ (n d : ℕ) where
 
 -- ---- moves
 
-centered_narrowed : (lo hi : ℕ) (a b : Chain) (to : ℕ) → to < b.num_qubits → Narrowed lo hi a b → Narrowed lo hi a (with_center b (At to))
+centered_narrowed : (lo hi : ℕ) (a b : Chain) (to : ℕ) → to < b.num_qubits → Narrowed lo hi a b → Narrowed lo hi a (with_center b (Some to))
 centered_narrowed lo hi a b to inside x = record {
-  sound = center_sound b x.sound (At to) (λ k e. let same : to ≡ k = cc in omega arith);
+  sound = center_sound b x.sound (Some to) (λ k e. let same : to ≡ k = cc in omega arith);
   rest = record { settings = x.rest.settings; labels = x.rest.labels; bits = x.rest.bits; totals = x.rest.totals };
   left_most = x.left_most;
   right_most = x.right_most;
@@ -250,7 +248,7 @@ centered_narrowed lo hi a b to inside x = record {
 
 module _ (from to : ℕ) (s : State) where
   -- the centre is where it was moved to
-  pub moved_centre : (moved from to s).chain.center ≡ At to
+  pub moved_centre : (moved from to s).chain.center ≡ Some to
   unfolding moved
   moved_centre = refl
 
@@ -278,21 +276,21 @@ module _ (from to : ℕ) (s : State) where
         (walk_left_apart n d (from - to) from (walk_right (to - from) from s) walked_right.sound (narrowed_qubits walked_right) (narrowed_cap walked_right) (omega arith) hf (omega (arith, first.long)))
 
 -- a move to where the centre is: no step, and the centre set to what it is
-pub moved_still : (k : ℕ) (s : State) → s.chain.center ≡ At k → moved k k s ≡ s
+pub moved_still : (k : ℕ) (s : State) → s.chain.center ≡ Some k → moved k k s ≡ s
 unfolding moved walk_left walk_right
 moved_still k s e =
     let z : k - k ≡ 0 = omega arith in
-    ap (λ (n : ℕ). centered k (walk_left n k (walk_right n k s))) z ∙ ap (λ (at : Center). held (with_center s.chain at) s.store) (sym e)
+    ap (λ (n : ℕ). centered k (walk_left n k (walk_right n k s))) z ∙ ap (λ (at : Option ℕ). held (with_center s.chain at) s.store) (sym e)
 
 abbrev pub last_site : State → ℕ
 last_site s = s.chain.num_qubits - 1
 
 -- a centre established crosses every site
 module _ (to : ℕ) (s : State) where
-  pub established_centre : (established to s).chain.center ≡ At to
+  pub established_centre : (established to s).chain.center ≡ Some to
   unfolding established
   established_centre =
-      either_way (λ (t : State). t.chain.center ≡ At to) (leb (2 * to) (last_site s)) _ _ (moved_centre 0 to (moved (last_site s) 0 s)) (moved_centre (last_site s) to (moved 0 (last_site s) s))
+      either_way (λ (t : State). t.chain.center ≡ Some to) (leb (2 * to) (last_site s)) _ _ (moved_centre 0 to (moved (last_site s) 0 s)) (moved_centre (last_site s) to (moved 0 (last_site s) s))
 
   module _ (h : Sound s.chain) (ht : to < s.chain.num_qubits) where
     twice_narrowed : (a b : ℕ) → a ≤ last_site s → b ≤ last_site s → Narrowed 0 (last_site s) s.chain (moved b to (moved a b s)).chain
@@ -324,19 +322,19 @@ module _ (to : ℕ) (s : State) where
 -- ---- what holds however the centre is brought to a site, and to a pair
 
 module _ (P : State → Type 0) (k : ℕ) (s : State) where
-  centered_on_by : (at : Center) → (at ≡ Unknown → P (established k s)) → ((from : ℕ) → at ≡ At from → P (moved from k s)) → P (centered_on k at s)
-  centered_on_by Unknown e m = e refl
-  centered_on_by (At from) e m = m from refl
+  centered_on_by : (at : Option ℕ) → (at ≡ None → P (established k s)) → ((from : ℕ) → at ≡ Some from → P (moved from k s)) → P (centered_on k at s)
+  centered_on_by None e m = e refl
+  centered_on_by (Some from) e m = m from refl
 
-  pub readied_by : (s.chain.center ≡ Unknown → P (established k s)) → ((from : ℕ) → s.chain.center ≡ At from → P (moved from k s)) → P (readied k s)
+  pub readied_by : (s.chain.center ≡ None → P (established k s)) → ((from : ℕ) → s.chain.center ≡ Some from → P (moved from k s)) → P (readied k s)
   readied_by = centered_on_by s.chain.center
 
-  prepared_on_by : (at : Center) → (at ≡ Unknown → P (established k s)) → ((from to : ℕ) → at ≡ At from → k ≤ to → to ≤ k + 1 → P (moved from to s)) → P (prepared_on k at s).state
-  prepared_on_by Unknown e m = e refl
-  prepared_on_by (At from) e m = either_way (λ (p : Prepared). P p.state) (leb from k) _ _ (m from k refl (omega arith) (omega arith)) (m from (k + 1) refl (omega arith) (omega arith))
+  prepared_on_by : (at : Option ℕ) → (at ≡ None → P (established k s)) → ((from to : ℕ) → at ≡ Some from → k ≤ to → to ≤ k + 1 → P (moved from to s)) → P (prepared_on k at s).state
+  prepared_on_by None e m = e refl
+  prepared_on_by (Some from) e m = either_way (λ (p : Prepared). P p.state) (leb from k) _ _ (m from k refl (omega arith) (omega arith)) (m from (k + 1) refl (omega arith) (omega arith))
 
   -- the pair as a cut takes it: as it stands, or with the centre on it
-  pub prepared_by_lem : P s → (s.chain.center ≡ Unknown → P (established k s)) → ((from to : ℕ) → s.chain.center ≡ At from → k ≤ to → to ≤ k + 1 → P (moved from to s)) → P (prepared_for k s).state
+  pub prepared_by_lem : P s → (s.chain.center ≡ None → P (established k s)) → ((from to : ℕ) → s.chain.center ≡ Some from → k ≤ to → to ≤ k + 1 → P (moved from to s)) → P (prepared_for k s).state
   prepared_by_lem as_it_is e m = either_way (λ (p : Prepared). P p.state) (keeps_centre k s) _ _ (prepared_on_by s.chain.center e m) as_it_is
 
 -- ---- the statements

@@ -1,12 +1,10 @@
 -- The tests by which the statements compute decide the table's propositions.
-use Rattle.std.specs.Prelude.{ℕ, ◌≡◌, refl, ◌⊎◌, ◌↔◌, Bool, true, false, cond, List, negsuc, length, get_or, Float}
+use Rattle.std.specs.Prelude.{ℕ, ◌≡◌, refl, ◌⊎◌, ◌↔◌, Bool, true, false, cond, List, negsuc, length, get_or, Float, Option, None, Some}
 use Rattle.std.proofs.Common.{arith, sym, inl, inr}
 use Rattle.std.specs.Float.{nan, fin, binary64}
 use Rattle.std.specs.Float.Ieee.{mul, lt, of_bits}
 use Rattle.complex.specs.Complex.{zero_f}
 use Rattle.complex.specs.declared.Complex.{Complex}
-use Rattle.model.specs.declared.Center.{Center}
-use Rattle.model.specs.declared.Center.TheVariants.{Unknown, At}
 use Rattle.model.specs.declared.WeightSide.TheVariants.{Right}
 use Rattle.model.specs.Slots.{State}
 use Rattle.model.specs.Svd.{values, raw_value}
@@ -35,9 +33,9 @@ picked {A = A} {b = false} {P = P} d f x y t = (to, λ e. inr (d.fails, e))
 
 -- ---- a centre is kept
 
-decides_known : (c : Center) → Decides (known c) ((j : ℕ) × (c ≡ At j))
-decides_known Unknown = record { holds = absurd; fails = λ x. let z : ◌≡◌ {A = ℕ} 0 1 = cc in omega arith }
-decides_known (At k) = record { holds = λ t. (k, refl); fails = λ x. tt }
+decides_known : (c : Option ℕ) → Decides (known c) ((j : ℕ) × (c ≡ Some j))
+decides_known None = record { holds = absurd; fails = λ x. let z : ◌≡◌ {A = ℕ} 0 1 = cc in omega arith }
+decides_known (Some k) = record { holds = λ t. (k, refl); fails = λ x. tt }
 
 pub decides_keeps : (k : ℕ) (s : State) → Decides (keeps_centre k s) (KeepsCentre k s)
 decides_keeps k s =

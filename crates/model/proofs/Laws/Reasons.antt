@@ -1,5 +1,5 @@
 -- Why a cut keeps as many values as it does, as `Statements/Reasons` states it.
-use Rattle.std.specs.Prelude.{ℕ, zero, suc, ◌+◌, ◌≤◌, ◌<◌, min, max, ◌≡◌, refl, ◌≢◌, Bool, true, false, cond, T, ltb, eqb, length, get_or, Float}
+use Rattle.std.specs.Prelude.{ℕ, zero, suc, ◌+◌, ◌≤◌, ◌<◌, min, max, ◌≡◌, refl, ◌≢◌, Bool, true, false, cond, T, ltb, eqb, length, get_or, Float, Ok, Err}
 use Rattle.std.proofs.Common.{arith, ap₂, ◌∙◌, subst, inl, ⊎_elim, ltb-true, ltb-false, lt-ltb, le-ltb, eqb-true}
 use Rattle.std.proofs.Math.Path.{sym, ap}
 use mathlib.Core.List.{List, [], ◌∷◌, ◌++◌, map}
@@ -8,8 +8,6 @@ use Rattle.std.specs.Float.Ieee.{mul, lt}
 use Rattle.complex.specs.Complex.{zero_f}
 use Rattle.complex.specs.declared.Complex.{Complex}
 use Rattle.gates.specs.Named.{matrix_of}
-use Rattle.model.specs.declared.Applied.{Applied}
-use Rattle.model.specs.declared.Applied.TheVariants as applied
 use Rattle.model.specs.declared.Reason.{Reason}
 use Rattle.model.specs.declared.Reason.TheVariants.{Floor, Cap, Tolerance, Full}
 use Rattle.model.specs.Chain.{site_of}
@@ -17,7 +15,7 @@ use Rattle.model.specs.Slots.{State}
 use Rattle.model.specs.Truncation.{leading, above_threshold, rank, reason_by, rank_reason}
 use Rattle.model.specs.Cut.{Ran, reason_of, adjacent_reason}
 use Rattle.model.specs.Routing.{Route, route_of, Step, swap_step, gate_step, turned, stepped, run_steps, gate_reason}
-use Rattle.model.specs.Answers.{view_applied, told_applied}
+use Rattle.model.specs.Answers.{Applied, view_applied, told_applied}
 use Rattle.model.specs.Calls.{After, applied_of, gate_call, named_gate_call}
 use Rattle.model.specs.Statements.Table.{gate_steps}
 use Rattle.model.specs.Statements.Demand1Cuts.{cut_svd}
@@ -147,12 +145,12 @@ run_reasons (y ∷ xs) x s h inside z =
 -- ---- what a gate tells
 
 told_number : (a : Applied) → (told_applied a).number ≡ (view_applied a).number
-told_number (applied.Done r) = refl
-told_number (applied.Refused k) = refl
+told_number (Ok r) = refl
+told_number (Err k) = refl
 
 told_refused : (a : Applied) → (told_applied a).number ≢ 0 → (told_applied a).reason ≡ []
-told_refused (applied.Done r) z = absurd (z refl)
-told_refused (applied.Refused k) z = refl
+told_refused (Ok r) z = absurd (z refl)
+told_refused (Err k) z = refl
 
 module _ (s : State) (work : List Float) (q0 q1 : ℕ) (g : List (List Complex)) where
   abbrev a : After Applied

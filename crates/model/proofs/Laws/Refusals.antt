@@ -1,5 +1,5 @@
 -- Each call answers the number that its table gives.
-use Rattle.std.specs.Prelude.{ℕ, zero, suc, ◌≤◌, ◌<◌, ◌≡◌, ◌≢◌, ◌⊎◌, Bool, true, false, not, ◌||◌, cond, T, leb, ltb, eqb, length, Float}
+use Rattle.std.specs.Prelude.{ℕ, zero, suc, ◌≤◌, ◌<◌, ◌≡◌, ◌≢◌, ◌⊎◌, Bool, true, false, not, ◌||◌, cond, T, leb, ltb, eqb, length, Float, Ok, Err}
 use Rattle.std.proofs.Common.{arith, sym, ◌∙◌, inl, inr, ⊎_elim, leb-false}
 use Rattle.std.proofs.Math.Path.{refl, subst}
 use Rattle.std.proofs.lemmas.Bool.{false≢true, eqb-false, not-false}
@@ -12,16 +12,13 @@ use Rattle.complex.specs.declared.Complex.{Complex}
 use Rattle.gates.specs.Gate.{entry}
 use Rattle.gates.specs.Finite.{finite_c, all_finite}
 use Rattle.model.specs.declared.Chain.{Chain}
-use Rattle.model.specs.declared.Answer.TheVariants as answer
-use Rattle.model.specs.declared.Answer.{Answer}
-use Rattle.model.specs.declared.Measured.{Measured}
 use Rattle.model.specs.declared.Reason.{Reason}
 use Rattle.model.specs.declared.Projected.{Projected}
 use Rattle.model.specs.declared.Projected.TheVariants as projected
 use Rattle.model.specs.Chain.{site_of}
 use Rattle.model.specs.Slots.{State, store_room}
 use Rattle.model.specs.Sound.{sound, share01, settings_fit}
-use Rattle.model.specs.Answers.{view_answer, view_applied, view_projected, view_measured, view_contracted}
+use Rattle.model.specs.Answers.{Answer, Measured, view_answer, view_applied, view_projected, view_measured, view_contracted}
 use Rattle.model.specs.Born.{weight_at, total_at, readied}
 use Rattle.model.specs.Environment.{Env, left_env, right_env}
 use Rattle.model.specs.Start.{fresh_chain, fresh_store, zero_chain}
@@ -189,7 +186,7 @@ start_refusals n d epsilon clamp exponent store =
   where
     go : (fit few : Bool) → Decides (not fit) (OutOfRange n d epsilon clamp exponent) → Decides few (ShortStore n d store)
         → FirstGround (start_table n d epsilon clamp exponent store) (view_answer
-        (cond (not fit) (started (answer.Refused 1) zero_chain store) (cond few (started (answer.Refused 2) zero_chain store) (started answer.Done (fresh_chain n d epsilon clamp exponent) (fresh_store n d store)))).answer).number
+        (cond (not fit) (started (Err 1) zero_chain store) (cond few (started (Err 2) zero_chain store) (started (Ok tt) (fresh_chain n d epsilon clamp exponent) (fresh_store n d store)))).answer).number
     go false few p q = inl (p.holds tt, refl)
     go true true p q = inr (p.fails, inl (q.holds tt, refl))
     go true false p q = inr (p.fails, inr (q.fails, refl))

@@ -1,5 +1,5 @@
 -- What moves, cuts and readings leave of the store: the sites that they do not rewrite keep their whole slots, and numbers past the slots are unchanged.
-use Rattle.std.specs.Prelude.{ℕ, zero, suc, ◌+◌, ◌-◌, ◌*◌, ◌≤◌, ◌<◌, min, max, ◌≡◌, refl, ◌≢◌, Bool, true, false, ◌||◌, cond, leb, eqb, length, Float}
+use Rattle.std.specs.Prelude.{ℕ, zero, suc, ◌+◌, ◌-◌, ◌*◌, ◌≤◌, ◌<◌, min, max, ◌≡◌, refl, ◌≢◌, Bool, true, false, ◌||◌, cond, leb, eqb, length, Float, Option, None, Some}
 use native.Mathlib.Omega.{arith}
 use Rattle.std.proofs.Common.{mul-le-mul, sym, ap, ◌∙◌, subst}
 use mathlib.Core.List.{List, [], ◌∷◌, ◌++◌, map}
@@ -7,8 +7,6 @@ use Rattle.std.specs.Float.Ieee.{le}
 use Rattle.complex.specs.Numbers.{numbers, length_numbers}
 use Rattle.complex.specs.Matrix.{rows, length_rows}
 use Rattle.complex.specs.declared.Complex.{Complex}
-use Rattle.model.specs.declared.Center.{Center}
-use Rattle.model.specs.declared.Center.TheVariants.{Unknown, At}
 use Rattle.model.specs.declared.Chain.{Chain}
 use Rattle.model.specs.declared.WeightSide.{WeightSide}
 use Rattle.model.specs.declared.WeightSide.TheVariants.{Left, Right}
@@ -37,9 +35,9 @@ abbrev pub Room : State → Type 0
 Room s = store_room s.chain.num_qubits s.chain.max_bond_dim ≤ length s.store
 
 -- the centre lies from lo to hi; where none is recorded, every site does
-abbrev pub Reach : ℕ → ℕ → ℕ → Center → Type 0
-Reach n lo hi Unknown = (lo ≡ 0) × (n ≤ hi + 1)
-Reach n lo hi (At k) = (lo ≤ k) × (k ≤ hi)
+abbrev pub Reach : ℕ → ℕ → ℕ → Option ℕ → Type 0
+Reach n lo hi None = (lo ≡ 0) × (n ≤ hi + 1)
+Reach n lo hi (Some k) = (lo ≤ k) × (k ≤ hi)
 
 pub record Within (lo hi : ℕ) (s t : State) : Type 0 where
   pub keeps : Keeps s.chain t.chain
@@ -86,10 +84,10 @@ module _ (s : State) (h : Sound s.chain) (room : Room s) where
 
   module _ (lo hi k : ℕ) (a : lo ≤ k) (r : Reach s.chain.num_qubits lo hi s.chain.center) where
     -- where no centre is recorded the range is the whole chain, and a recorded one lies in the range
-    whole : s.chain.center ≡ Unknown → (lo ≡ 0) × (s.chain.num_qubits ≤ hi + 1)
+    whole : s.chain.center ≡ None → (lo ≡ 0) × (s.chain.num_qubits ≤ hi + 1)
     whole e = rw e at r
 
-    reached : (from : ℕ) → s.chain.center ≡ At from → (lo ≤ from) × (from ≤ hi)
+    reached : (from : ℕ) → s.chain.center ≡ Some from → (lo ≤ from) × (from ≤ hi)
     reached from e = rw e at r
 
     pub readied_within : k < s.chain.num_qubits → k ≤ hi → Within lo hi s (readied k s)
@@ -126,7 +124,7 @@ module _ (s : State) (h : Sound s.chain) (room : Room s) (k : ℕ) (inside : k +
       → Reach s.chain.num_qubits lo hi (cut_stored k maintained side s d chi).chain.center
   cut_stored_reach chi lo hi a b r = pick maintained side
     where
-      pick : (m : Bool) (w : WeightSide) → Reach s.chain.num_qubits lo hi (cond m (At (weight_site w k)) s.chain.center)
+      pick : (m : Bool) (w : WeightSide) → Reach s.chain.num_qubits lo hi (cond m (Some (weight_site w k)) s.chain.center)
       pick true Left = (a, omega arith)
       pick true Right = (omega arith, b)
       pick false w = r
@@ -136,7 +134,7 @@ module _ (lo hi k : ℕ) (a : lo ≤ k) (b : k + 1 ≤ hi) where
     -- every state in which the pair is decomposed
     decomposed_within : (t : State) → DecomposedIn gate k s t → Within lo hi s t
     decomposed_within = decomposed_by gate k s (Within lo hi s) (prepared_within s h room lo hi k a r inside b)
-        (λ e. let z : Reach s.chain.num_qubits lo hi Unknown = rw e at r in established_within s h room lo hi k (omega arith) z.0 z.1)
+        (λ e. let z : Reach s.chain.num_qubits lo hi None = rw e at r in established_within s h room lo hi k (omega arith) z.0 z.1)
 
     stored_within : (adjacent gate k s).state ≡ cut_at gate k s → Within lo hi s (adjacent gate k s).state
     stored_within e =
@@ -229,23 +227,23 @@ module _ (s : State) (h : Sound s.chain) (room : Room s) (k : ℕ) (inside : k <
 
 -- ---- a run that establishes no centre: only its cuts rewrite sites
 
-no_At : {at : Center} {k : ℕ} → at ≡ At k → at ≡ Unknown → ⊥
-no_At p q = let z : ◌≡◌ {A = ℕ} 0 1 = cc in omega arith
+no_some : {at : Option ℕ} {k : ℕ} → at ≡ Some k → at ≡ None → ⊥
+no_some p q = let z : ◌≡◌ {A = ℕ} 0 1 = cc in omega arith
 
-prepared_centre : (k : ℕ) (at : Center) (s : State) → (prepared_on k at s).state.chain.center ≡ Unknown → ⊥
-prepared_centre k Unknown s = λ e. no_At (established_centre k s) e
-prepared_centre k (At from) s =
-    either_way (λ (p : Prepared). p.state.chain.center ≡ Unknown → ⊥) (leb from k) _ _ (λ e. no_At (moved_centre from k s) e) (λ e. no_At (moved_centre from (k + 1) s) e)
+prepared_centre : (k : ℕ) (at : Option ℕ) (s : State) → (prepared_on k at s).state.chain.center ≡ None → ⊥
+prepared_centre k None s = λ e. no_some (established_centre k s) e
+prepared_centre k (Some from) s =
+    either_way (λ (p : Prepared). p.state.chain.center ≡ None → ⊥) (leb from k) _ _ (λ e. no_some (moved_centre from k s) e) (λ e. no_some (moved_centre from (k + 1) s) e)
 
 -- with no centre after it, a pair was taken as it stood
-unmoved_pair : (k : ℕ) (s : State) → (prepared_for k s).state.chain.center ≡ Unknown → keeps_centre k s ≡ false
+unmoved_pair : (k : ℕ) (s : State) → (prepared_for k s).state.chain.center ≡ None → keeps_centre k s ≡ false
 unmoved_pair k s =
-    by_test (λ (p : Prepared). p.state.chain.center ≡ Unknown → keeps_centre k s ≡ false) (keeps_centre k s) _ _ (λ b e. absurd (prepared_centre k s.chain.center s e)) (λ b e. b)
+    by_test (λ (p : Prepared). p.state.chain.center ≡ None → keeps_centre k s ≡ false) (keeps_centre k s) _ _ (λ b e. absurd (prepared_centre k s.chain.center s e)) (λ b e. b)
 
 -- no centre after means none before, and then only the sites from lo to hi are rewritten
 pub record Unmoved (lo hi : ℕ) (s t : State) : Type 0 where
-  pub before : t.chain.center ≡ Unknown → s.chain.center ≡ Unknown
-  pub apart : t.chain.center ≡ Unknown → Apart s.chain.num_qubits s.chain.max_bond_dim lo hi s.store t.store
+  pub before : t.chain.center ≡ None → s.chain.center ≡ None
+  pub apart : t.chain.center ≡ None → Apart s.chain.num_qubits s.chain.max_bond_dim lo hi s.store t.store
 
 unmoved_none : (lo hi : ℕ) (s : State) → Unmoved lo hi s s
 unmoved_none lo hi s = record { before = λ e. e; apart = λ e. apart_none _ _ lo hi s.store }
@@ -258,9 +256,9 @@ unmoved_then {lo = lo} {hi = hi} k x y = record {
 
 module _ (lo hi k : ℕ) (a : lo ≤ k) (b : k + 1 ≤ hi) (gate : List (List Complex)) (s : State) (h : Sound s.chain) (room : Room s) (inside : k + 1 < s.chain.num_qubits) where
   -- decomposed with no centre recorded, the pair was taken as the cut found it
-  taken : (t : State) → DecomposedIn gate k s t → t.chain.center ≡ Unknown → t ≡ s
-  taken = decomposed_by gate k s (λ (t : State). t.chain.center ≡ Unknown → t ≡ s)
-      (λ c. ap (λ (p : Prepared). p.state) (unprepared k s (unmoved_pair k s c))) (λ e c. absurd (no_At (established_centre k s) c))
+  taken : (t : State) → DecomposedIn gate k s t → t.chain.center ≡ None → t ≡ s
+  taken = decomposed_by gate k s (λ (t : State). t.chain.center ≡ None → t ≡ s)
+      (λ c. ap (λ (p : Prepared). p.state) (unprepared k s (unmoved_pair k s c))) (λ e c. absurd (no_some (established_centre k s) c))
 
   pair_unmoved : (t : State) → DecomposedIn gate k s t → Unmoved lo hi s t
   pair_unmoved t x = record {
@@ -268,8 +266,8 @@ module _ (lo hi k : ℕ) (a : lo ≤ k) (b : k + 1 ≤ hi) (gate : List (List Co
     apart = λ c. subst (λ (u : State). Apart s.chain.num_qubits s.chain.max_bond_dim lo hi s.store u.store) (sym (taken t x c)) (apart_none _ _ lo hi s.store);
   }
 
-  cut_unmoved : (p : State) (side : WeightSide) (keeps : Bool) (d : Svd) (chi : ℕ) → chi ≤ p.chain.max_bond_dim → (p.chain.center ≡ Unknown → p ≡ s) → Unmoved lo hi s (cut_stored k keeps side p d chi)
-  cut_unmoved p side true d chi most same = record { before = λ e. absurd (no_At refl e); apart = λ e. absurd (no_At refl e) }
+  cut_unmoved : (p : State) (side : WeightSide) (keeps : Bool) (d : Svd) (chi : ℕ) → chi ≤ p.chain.max_bond_dim → (p.chain.center ≡ None → p ≡ s) → Unmoved lo hi s (cut_stored k keeps side p d chi)
+  cut_unmoved p side true d chi most same = record { before = λ e. absurd (no_some refl e); apart = λ e. absurd (no_some refl e) }
   cut_unmoved p side false d chi most same = record {
     before = λ e. ap (λ (t : State). t.chain.center) (sym (same e)) ∙ e;
     apart = λ e.
@@ -307,6 +305,6 @@ module _ (lo hi : ℕ) where
       (unmoved_then z.keeps y (run_steps_unmoved xs (stepped x s).state z.keeps.sound (within_room z room) (rw z.keeps.qubits inside.1) spans.2))
       y
     where
-      anywhere : (at : Center) → ((j : ℕ) → at ≡ At j → j < s.chain.num_qubits) → Reach s.chain.num_qubits 0 s.chain.num_qubits at
-      anywhere Unknown below = (refl, omega arith)
-      anywhere (At j) below = (omega arith, omega (arith, below j refl))
+      anywhere : (at : Option ℕ) → ((j : ℕ) → at ≡ Some j → j < s.chain.num_qubits) → Reach s.chain.num_qubits 0 s.chain.num_qubits at
+      anywhere None below = (refl, omega arith)
+      anywhere (Some j) below = (omega arith, omega (arith, below j refl))

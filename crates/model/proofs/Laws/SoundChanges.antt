@@ -1,6 +1,6 @@
 -- Changes of one group of a record's fields that keep it sound; and ranks, which become bonds: they are from 1 to their caps, whatever numbers are factored.
 use Prim.Native.Nat.{ℕ, ◌+◌, ◌-◌, ◌≤◌, ◌<◌, min}
-use Rattle.std.specs.Prelude.{◌≡◌, refl, ◌≢◌, Bool, ◌&&◌, List, length, get_or, set, Float, ltb, eqb, T}
+use Rattle.std.specs.Prelude.{◌≡◌, refl, ◌≢◌, Bool, ◌&&◌, List, length, get_or, set, Float, ltb, eqb, T, Option, Some}
 use Rattle.std.proofs.Common.{sym, ap, ◌∙◌, subst, length-set, get_or-set_same, get_or-set_other, ltb→lt}
 use Rattle.std.proofs.Math.Decide.{ℕ_discrete}
 use native.Mathlib.Omega.{arith}
@@ -9,8 +9,6 @@ use Rattle.std.specs.Float.Ieee.{lt, mul, to_bits}
 use borrow.Author.Tests.{eqb-false}
 use Rattle.std.specs.Float.Ieee.Fits.{and_l}
 use Rattle.complex.specs.Loops.{each_keeps}
-use Rattle.model.specs.declared.Center.{Center}
-use Rattle.model.specs.declared.Center.TheVariants.{At}
 use Rattle.model.specs.declared.Chain.{Chain}
 use Rattle.model.specs.Chain.{with_center, with_bond, with_bits, labels_of}
 use Rattle.model.specs.Routing.{relabelled}
@@ -33,7 +31,7 @@ after_set P l i j b h here there = choose (ℕ_discrete j i)
 -- ---- the centre, and the flags
 
 module _ (c : Chain) (h : Sound c) where
-  pub center_sound : (at : Center) → ((k : ℕ) → at ≡ At k → k < c.num_qubits) → Sound (with_center c at)
+  pub center_sound : (at : Option ℕ) → ((k : ℕ) → at ≡ Some k → k < c.num_qubits) → Sound (with_center c at)
   center_sound at l = record {
     settings = h.settings;
     high_water = h.high_water;

@@ -1,6 +1,6 @@
 -- The test `sound` of a chain record and the propositions of `Statements/Soundness` are equivalent.
 use Prim.Native.Nat.{ℕ, ◌+◌, ◌-◌, ◌≤◌, ◌<◌}
-use Rattle.std.specs.Prelude.{◌≡◌, refl, ◌&&◌, ◌||◌, List, leb, length, get_or, Float}
+use Rattle.std.specs.Prelude.{◌≡◌, refl, ◌&&◌, ◌||◌, List, leb, length, get_or, Float, Option, None, Some}
 use Rattle.std.proofs.Math.Bool.{Bool}
 use Rattle.std.proofs.Math.Logic.{⊎_elim}
 use Rattle.std.proofs.Common.{arith, le→leb, lt→ltb}
@@ -11,8 +11,6 @@ use Rattle.std.specs.Float.Ieee.{le, lt, to_bits}
 use Rattle.std.specs.Float.Ieee.Fits.{and_l, and_r, and_i, eq→eqb}
 use Rattle.complex.specs.Complex.{zero_f, one_f}
 use Rattle.complex.specs.Loops.{every, every_at, every_of}
-use Rattle.model.specs.declared.Center.{Center}
-use Rattle.model.specs.declared.Center.TheVariants.{Unknown, At}
 use Rattle.model.specs.declared.Chain.{Chain}
 use Rattle.model.specs.Chain.{bond_left, bond_right}
 use Rattle.model.specs.Sound.{within, share01, settings_fit, entry_fits, bonds_fit, undoes, center_fits, discarded_fits, sized, sound}
@@ -167,12 +165,12 @@ module _ (n : ℕ) (there back : List ℕ) where
       every_of 64 (λ i. entry_fits n there (goes i) i)
       (λ i m. entry_fits_lem n there (goes i) i (λ l. and_i (ltb (get_or there i 0) n) _ (lt→ltb _ n (h.below i l)) (eq→eqb (h.undone i l))) (h.past i))
 
-centre_facts : (at : Center) (n : ℕ) → T (center_fits at n) → (k : ℕ) → at ≡ At k → k < n
+centre_facts : (at : Option ℕ) (n : ℕ) → T (center_fits at n) → (k : ℕ) → at ≡ Some k → k < n
 centre_facts at n h k e = ltb→lt k n (rw e at h)
 
-facts_centre : (at : Center) (n : ℕ) → ((k : ℕ) → at ≡ At k → k < n) → T (center_fits at n)
-facts_centre Unknown n h = tt
-facts_centre (At k) n h = lt→ltb k n (h k refl)
+facts_centre : (at : Option ℕ) (n : ℕ) → ((k : ℕ) → at ≡ Some k → k < n) → T (center_fits at n)
+facts_centre None n h = tt
+facts_centre (Some k) n h = lt→ltb k n (h k refl)
 
 -- the discarded weights past the last bond
 module _ (n : ℕ) (xs : List Float) where

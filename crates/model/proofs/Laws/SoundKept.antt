@@ -1,5 +1,5 @@
 -- Every run and every call leaves a sound record sound, and its settings as they were. Nothing is asked of the store: the new bonds are ranks of what it holds.
-use Rattle.std.specs.Prelude.{ℕ, zero, suc, ◌+◌, ◌-◌, ◌^◌, ◌≤◌, ◌<◌, min, max, ◌≡◌, ◌≢◌, Bool, true, false, not, ◌&&◌, ◌||◌, cond, List, [], ◌∷◌, ◌++◌, map, ltb, eqb, Float}
+use Rattle.std.specs.Prelude.{ℕ, zero, suc, ◌+◌, ◌-◌, ◌^◌, ◌≤◌, ◌<◌, min, max, ◌≡◌, ◌≢◌, Bool, true, false, not, ◌&&◌, ◌||◌, cond, List, [], ◌∷◌, ◌++◌, map, ltb, eqb, Float, Option, Some}
 use Rattle.std.proofs.Math.Path.{refl}
 use Rattle.std.proofs.Common.{◌∙◌, arith, length-set}
 use Rattle.std.specs.Float.Ieee.{le}
@@ -7,8 +7,6 @@ use Rattle.complex.specs.declared.Complex.{Complex}
 use Rattle.gates.specs.Finite.{all_finite}
 use Rattle.gates.specs.Named.{matrix_of}
 use Rattle.gates.specs.declared.NamedGate.{NamedGate}
-use Rattle.model.specs.declared.Center.{Center}
-use Rattle.model.specs.declared.Center.TheVariants.{At}
 use Rattle.model.specs.declared.Chain.{Chain}
 use Rattle.model.specs.declared.WeightSide.{WeightSide}
 use Rattle.model.specs.declared.WeightSide.TheVariants.{Left, Right}
@@ -81,7 +79,7 @@ module _ (k : ℕ) (s : State) (h : Sound s.chain) where
 -- ---- one cut
 
 -- the centre that a stored cut leaves is a site: that of the weight, or the one before
-pub stored_centre : (n k : ℕ) → k + 1 < n → (maintained : Bool) (side : WeightSide) (c : Center) → ((j : ℕ) → c ≡ At j → j < n) → (j : ℕ) → cond maintained (At (weight_site side k)) c ≡ At j → j < n
+pub stored_centre : (n k : ℕ) → k + 1 < n → (maintained : Bool) (side : WeightSide) (c : Option ℕ) → ((j : ℕ) → c ≡ Some j → j < n) → (j : ℕ) → cond maintained (Some (weight_site side k)) c ≡ Some j → j < n
 stored_centre n k inside true Left c below j e = let same : k ≡ j = cc in omega arith
 stored_centre n k inside true Right c below j e = let same : k + 1 ≡ j = cc in omega arith
 stored_centre n k inside false side c below j e = below j e

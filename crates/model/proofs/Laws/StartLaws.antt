@@ -1,5 +1,5 @@
 -- A fresh chain: its record is sound, its store has one slot for each site; and what start leaves, accepted or refused.
-use Rattle.std.specs.Prelude.{ℕ, zero, suc, ◌+◌, ◌-◌, ◌*◌, ◌≤◌, ◌<◌, refl, Bool, true, false, not, cond, List, [], ◌∷◌, ◌++◌, T, ltb, length, take, drop, Float}
+use Rattle.std.specs.Prelude.{ℕ, zero, suc, ◌+◌, ◌-◌, ◌*◌, ◌≤◌, ◌<◌, refl, Bool, true, false, not, cond, List, [], ◌∷◌, ◌++◌, T, ltb, length, take, drop, Float, Ok, Err}
 use Rattle.std.proofs.Math.Path.{◌≡◌, sym, ap}
 use Rattle.std.proofs.Common.{◌∙◌, subst, ⊎_elim, append_assoc, ltb-false, lt-ltb, le-ltb, length-append, length-drop, take_at}
 use Rattle.std.proofs.Math.Decide.{ℕ_discrete}
@@ -14,7 +14,6 @@ use Rattle.complex.specs.Complex.{zero_f, one_f}
 use Rattle.complex.specs.Loops.{length_tabulate, get_d_tabulate}
 use Rattle.complex.specs.Parts.{part}
 use Rattle.complex.specs.Matrix.{rows, length_rows}
-use Rattle.model.specs.declared.Answer.TheVariants as answer
 use Rattle.model.specs.declared.Chain.{Chain}
 use Rattle.model.specs.Slots.{slot_room, store_room, slot_of, filled}
 use Rattle.model.specs.Sound.{settings_fit}
@@ -123,8 +122,8 @@ module _ (n d : ℕ) (store : List Float) (h : 1 ≤ d) where
 
 -- ---- the call
 
--- an answer that is Done says that neither test refused
-unrefused : (a b : Bool) (c c' c'' : Chain) (x x' x'' : List Float) → (cond a (started (answer.Refused 1) c x) (cond b (started (answer.Refused 2) c' x') (started answer.Done c'' x''))).answer ≡ answer.Done
+-- an answer that is Ok says that neither test refused
+unrefused : (a b : Bool) (c c' c'' : Chain) (x x' x'' : List Float) → (cond a (started (Err 1) c x) (cond b (started (Err 2) c' x') (started (Ok tt) c'' x''))).answer ≡ Ok tt
     → (a ≡ false) × (b ≡ false)
 unrefused false false c c' c'' x x' x'' e = (refl, refl)
 unrefused false true c c' c'' x x' x'' e = absurd (let z : ◌≡◌ {A = ℕ} 0 1 = cc in omega arith)
@@ -134,9 +133,9 @@ unrefused true b c c' c'' x x' x'' e = absurd (let z : ◌≡◌ {A = ℕ} 0 1 =
 pub record Accepted (n d : ℕ) (epsilon clamp : Float) (exponent : ℕ) (store : List Float) : Type 0 where
   pub settings : Settings n d epsilon clamp exponent
   pub room : store_room n d ≤ length store
-  pub is : start_call n d epsilon clamp exponent store ≡ started answer.Done (fresh_chain n d epsilon clamp exponent) (fresh_store n d store)
+  pub is : start_call n d epsilon clamp exponent store ≡ started (Ok tt) (fresh_chain n d epsilon clamp exponent) (fresh_store n d store)
 
-pub start_accepted : (n d : ℕ) (epsilon clamp : Float) (exponent : ℕ) (store : List Float) → (start_call n d epsilon clamp exponent store).answer ≡ answer.Done → Accepted n d epsilon clamp exponent store
+pub start_accepted : (n d : ℕ) (epsilon clamp : Float) (exponent : ℕ) (store : List Float) → (start_call n d epsilon clamp exponent store).answer ≡ Ok tt → Accepted n d epsilon clamp exponent store
 unfolding start_call
 start_accepted n d epsilon clamp exponent store e =
     let fits = settings_fit n d epsilon clamp exponent in
@@ -145,11 +144,11 @@ start_accepted n d epsilon clamp exponent store e =
     record {
       settings = settings_facts n d epsilon clamp exponent (subst (λ (b : Bool). T b) (sym (not-false fits x.0)) tt);
       room = ltb-false (length store) (store_room n d) x.1;
-      is = λ i. cond (x.0 i) (started (answer.Refused 1) zero_chain store) (cond (x.1 i) (started (answer.Refused 2) zero_chain store) (started answer.Done f (fresh_store n d store)));
+      is = λ i. cond (x.0 i) (started (Err 1) zero_chain store) (cond (x.1 i) (started (Err 2) zero_chain store) (started (Ok tt) f (fresh_store n d store)));
     }
 
 -- an accepted start's record is sound
-pub start_sound : (n d : ℕ) (epsilon clamp : Float) (exponent : ℕ) (store : List Float) → (start_call n d epsilon clamp exponent store).answer ≡ answer.Done
+pub start_sound : (n d : ℕ) (epsilon clamp : Float) (exponent : ℕ) (store : List Float) → (start_call n d epsilon clamp exponent store).answer ≡ Ok tt
     → Sound (start_call n d epsilon clamp exponent store).chain
 start_sound n d epsilon clamp exponent store done =
     let x = start_accepted n d epsilon clamp exponent store done in
@@ -160,11 +159,11 @@ pub start_leaves : (n d : ℕ) (epsilon clamp : Float) (exponent : ℕ) (store :
 unfolding start_call
 start_leaves n d epsilon clamp exponent store = pick (settings_fit n d epsilon clamp exponent) (ltb (length store) (store_room n d)) (settings_facts n d epsilon clamp exponent) (ltb-false (length store) (store_room n d))
   where
-    turned : (k : ℕ) → StartLeaves n d k store (started (answer.Refused k) zero_chain store)
+    turned : (k : ℕ) → StartLeaves n d k store (started (Err k) zero_chain store)
     turned k = record { unaltered = λ l. (refl, refl); past = refl; long = refl }
 
     pick : (fit few : Bool) → (T fit → Settings n d epsilon clamp exponent) → (few ≡ false → store_room n d ≤ length store)
-        → (let a = cond (not fit) (started (answer.Refused 1) zero_chain store) (cond few (started (answer.Refused 2) zero_chain store) (started answer.Done (fresh_chain n d epsilon clamp exponent) (fresh_store n d store))) in
+        → (let a = cond (not fit) (started (Err 1) zero_chain store) (cond few (started (Err 2) zero_chain store) (started (Ok tt) (fresh_chain n d epsilon clamp exponent) (fresh_store n d store))) in
         StartLeaves n d (view_answer a.answer).number store a)
     pick false few f room = turned 1
     pick true true f room = turned 2

@@ -1,5 +1,5 @@
 -- A chain of bonds 1 whose sites hold one unit each: centre moves keep it, and a cut moves the bits of its two sites and multiplies the phase. By site; `Following.antt` says it by qubit.
-use Rattle.std.specs.Prelude.{◌≡◌, Bool, not, ◌&&◌, ◌≢◌, ◌⊎◌, leb, ltb, eqb, length, get_or, set, Float}
+use Rattle.std.specs.Prelude.{◌≡◌, Bool, not, ◌&&◌, ◌≢◌, ◌⊎◌, leb, ltb, eqb, length, get_or, set, Float, Option, Some}
 use Rattle.std.proofs.Math.Path.{refl, ap, subst}
 use Rattle.std.proofs.Common.{sym, ◌∙◌, inl, inr, ⊎_elim, mul-le-mul_right, pow_mono, le-ltb, eq-eqb, ne_eqb}
 use Rattle.std.proofs.Math.Bool.{true, false, cond}
@@ -15,8 +15,6 @@ use Rattle.complex.specs.Parts.{part_put}
 use Rattle.complex.specs.Numbers.{numbers, length_numbers}
 use Rattle.complex.specs.Matrix.{rows, length_rows}
 use Rattle.complex.specs.declared.Complex.{Complex}
-use Rattle.model.specs.declared.Center.{Center}
-use Rattle.model.specs.declared.Center.TheVariants.{At}
 use Rattle.model.specs.declared.WeightSide.{WeightSide}
 use Rattle.model.specs.declared.WeightSide.TheVariants.{Left, Right}
 use Rattle.model.specs.declared.Projected.TheVariants as projected
@@ -106,7 +104,7 @@ pub record Tracked (S : Setup) (A B : List ℕ) (s : State) (b : ℕ → Bool) (
   pub lefts_one : (k : ℕ) → k < S.qubits → lefts s k ≡ 1
   pub rights_one : (k : ℕ) → k < S.qubits → rights s k ≡ 1
   pub holds : (k : ℕ) → k < S.qubits → Holds (site_at s k) (b k) (p k)
-  pub centre : (k : ℕ) → s.chain.center ≡ At k → k < S.qubits
+  pub centre : (k : ℕ) → s.chain.center ≡ Some k → k < S.qubits
   pub high_one : s.chain.bond_high_water ≡ 1
   pub none : s.chain.truncation_discarded ≡ zero_f
   pub sites_are : s.chain.logical_to_site ≡ A
@@ -296,7 +294,7 @@ module _ (S : Setup) (D : Fit S) (A B : List ℕ) where
     walk_left_tracked zero k s N K t = t
     walk_left_tracked (suc n) k s N K t = walk_left_tracked n (k - 1) (step_left (k - 1) s) (omega arith) (omega arith) (left_tracked (k - 1) s (omega arith) t)
 
-    centre_tracked : (s : State) (c : Center) → ((k : ℕ) → c ≡ At k → k < S.qubits) → Tracked S A B s b p → Tracked S A B (held (with_center s.chain c) s.store) b p
+    centre_tracked : (s : State) (c : Option ℕ) → ((k : ℕ) → c ≡ Some k → k < S.qubits) → Tracked S A B s b p → Tracked S A B (held (with_center s.chain c) s.store) b p
     centre_tracked s c w t = record {
       same = t.same;
       lefts_one = t.lefts_one;
@@ -312,7 +310,7 @@ module _ (S : Setup) (D : Fit S) (A B : List ℕ) where
     moved_tracked : (from to : ℕ) (s : State) → from < S.qubits → to < S.qubits → Tracked S A B s b p → Tracked S A B (moved from to s) b p
     unfolding moved
     moved_tracked from to s F G t =
-        centre_tracked (walk_left (from - to) from (walk_right (to - from) from s)) (At to) (λ k e. let same : to ≡ k = cc in omega arith)
+        centre_tracked (walk_left (from - to) from (walk_right (to - from) from s)) (Some to) (λ k e. let same : to ≡ k = cc in omega arith)
         (walk_left_tracked (from - to) from (walk_right (to - from) from s) (omega arith) F (walk_right_tracked (to - from) from s (omega arith) t))
 
     established_tracked : (to : ℕ) (s : State) → to < S.qubits → Tracked S A B s b p → Tracked S A B (established to s) b p
@@ -348,7 +346,7 @@ module _ (S : Setup) (D : Fit S) (A B : List ℕ) where
       abbrev cut_written : Bool → WeightSide → State → List Float → List Float → List Float → State
       cut_written maintained side s l r shares =
           let t = pair_stored k l 1 r s in
-          held (with_center (cut_recorded k 1 shares t.chain) (cond maintained (At (weight_site side k)) s.chain.center)) t.store
+          held (with_center (cut_recorded k 1 shares t.chain) (cond maintained (Some (weight_site side k)) s.chain.center)) t.store
 
       written_tracked : (maintained : Bool) (side : WeightSide) (s : State) (l r shares : List Float) → Tracked S A B s b p → length l ≡ 4
           → Holds l (G.first (b k) (b (k + 1))) (G.by (b k) (b (k + 1)) ⊗ (p k ⊗ p (k + 1))) → length r ≡ 4 → Holds r (G.second (b k) (b (k + 1))) one → recorded s.chain.truncation_discarded shares ≡ zero_f

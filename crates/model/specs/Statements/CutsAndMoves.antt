@@ -1,12 +1,11 @@
 -- What Vidal 2003 and Schollwöck 2011 say of a cut and of a move of the centre, over the definitions of Pair.antt, Cut.antt and Moves.antt.
 -- Statements only; `Laws/CutLaws` and `Laws/MoveLaws` prove them.
-use Rattle.std.specs.Prelude.{ℕ, ◌+◌, ◌-◌, ◌*◌, ◌≤◌, ◌<◌, min, max, ◌≡◌, ◌⊎◌, List, length, drop, Float}
+use Rattle.std.specs.Prelude.{ℕ, ◌+◌, ◌-◌, ◌*◌, ◌≤◌, ◌<◌, min, max, ◌≡◌, ◌⊎◌, List, length, drop, Float, Some}
 use Rattle.complex.specs.Complex.{add_c, mul_c, conj_c, scale_c, real, zero_c}
 use Rattle.complex.specs.Loops.{sum_c}
 use Rattle.complex.specs.Numbers.{at}
 use Rattle.complex.specs.declared.Complex.{Complex}
 use Rattle.gates.specs.Gate.{entry}
-use Rattle.model.specs.declared.Center.TheVariants.{At}
 use Rattle.model.specs.declared.Chain.{Chain}
 use Rattle.model.specs.Chain.{bond_left, bond_right, settings_of, labels_of, cut_totals_of}
 use Rattle.model.specs.Slots.{State, store_room, slot_of, amplitude}
@@ -85,7 +84,7 @@ pub record Apart (n d lo hi : ℕ) (x y : List Float) : Type 0 where
 
 -- a move across the sites lo to hi, to the site `to`
 pub record Moved (lo hi to : ℕ) (s t : State) : Type 0 where
-  pub centre : t.chain.center ≡ At to
+  pub centre : t.chain.center ≡ Some to
   pub chain : Narrowed lo hi s.chain t.chain
   pub store : (let n = s.chain.num_qubits in
       let d = s.chain.max_bond_dim in

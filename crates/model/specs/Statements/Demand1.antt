@@ -1,15 +1,12 @@
 -- DEMAND 1: what every call answers, and what it leaves of its record and slices, on all inputs. Where a gate stops that 6 or 7 refuses, `Demand1Cuts` says.
 -- Statements only; `Laws/Demand1Proofs` proves them.
-use Rattle.std.specs.Prelude.{ℕ, ◌*◌, ◌+◌, ◌-◌, ◌≤◌, ◌<◌, min, max, ◌≡◌, ◌⊎◌, ◌↔◌, Bool, not, List, T, length, take, drop, replicate, Float}
+use Rattle.std.specs.Prelude.{ℕ, ◌*◌, ◌+◌, ◌-◌, ◌≤◌, ◌<◌, min, max, ◌≡◌, ◌⊎◌, ◌↔◌, Bool, not, List, T, length, take, drop, replicate, Float, Option, None, Some, Ok}
 use Rattle.std.specs.Float.{binary64}
 use Rattle.std.specs.Float.Ieee.{div, le}
 use Rattle.complex.specs.Complex.{zero_f}
 use Rattle.complex.specs.declared.Complex.{Complex}
 use Rattle.gates.specs.Named.{matrix_of}
 use Rattle.gates.specs.declared.NamedGate.{NamedGate}
-use Rattle.model.specs.declared.Center.{Center}
-use Rattle.model.specs.declared.Center.TheVariants.{Unknown, At}
-use Rattle.model.specs.declared.Contracted.TheVariants as contracted
 use Rattle.model.specs.declared.Projected.{Projected}
 use Rattle.model.specs.declared.Projected.TheVariants as projected
 use Rattle.model.specs.Chain.{site_of}
@@ -63,13 +60,13 @@ pub record StoreLeft (n d lo hi : ℕ) (before after : List Float) : Type 0 wher
   pub long : length after ≡ length before
 
 -- the sites that a call on the sites from `near` to `far` may rewrite: these, and those between them and the centre; all, where no centre is recorded
-abbrev pub lowest : Center → ℕ → ℕ
-lowest Unknown near = 0
-lowest (At k) near = min k near
+abbrev pub lowest : Option ℕ → ℕ → ℕ
+lowest None near = 0
+lowest (Some k) near = min k near
 
-abbrev pub highest : Center → ℕ → ℕ → ℕ
-highest Unknown n far = n - 1
-highest (At k) n far = max k far
+abbrev pub highest : Option ℕ → ℕ → ℕ → ℕ
+highest None n far = n - 1
+highest (Some k) n far = max k far
 
 -- what a call that answers `number` leaves of the state s and of the work slice
 pub record Leaves {A : Type 0} (s : State) (work : List Float) (near far number : ℕ) (a : After A) : Type 0 where
@@ -87,7 +84,7 @@ pub record StartLeaves (n d number : ℕ) (store : List Float) (a : Started) : T
 pub record EnvironmentLeaves (s : State) (work out : List Float) (number : ℕ) (e : Env) (a : Walked) : Type 0 where
   pub unaltered : Early number → a.out ≡ out
   pub work_left : WorkLeft s.chain.max_bond_dim number work a.work
-  pub result : number ≡ 0 → (a.answer ≡ contracted.Dim e.dim) × (take (2 * e.dim * e.dim) a.out ≡ e.entries) × (drop (2 * e.dim * e.dim) a.out ≡ drop (2 * e.dim * e.dim) out)
+  pub result : number ≡ 0 → (a.answer ≡ Ok e.dim) × (take (2 * e.dim * e.dim) a.out ≡ e.entries) × (drop (2 * e.dim * e.dim) a.out ≡ drop (2 * e.dim * e.dim) out)
   pub long : length a.out ≡ length out
 
 -- the sites from one qubit's to the other's
@@ -107,10 +104,10 @@ pub record Remains : Type 0 where
   -- a gate after which no centre is recorded moved none: it rewrites no site but those from one qubit's to the other's
   pub unmoved : (s : State) (work : List Float) (q0 q1 : ℕ) (gate : List (List Complex)) →
       (let a = gate_call s work q0 q1 gate in
-      a.chain.center ≡ Unknown → StoreLeft s.chain.num_qubits s.chain.max_bond_dim (near_site s q0 q1) (far_site s q0 q1) s.store a.store)
+      a.chain.center ≡ None → StoreLeft s.chain.num_qubits s.chain.max_bond_dim (near_site s q0 q1) (far_site s q0 q1) s.store a.store)
   pub unmoved_named : (s : State) (work : List Float) (q0 q1 : ℕ) (name : NamedGate) →
       (let a = named_gate_call s work q0 q1 name in
-      a.chain.center ≡ Unknown → StoreLeft s.chain.num_qubits s.chain.max_bond_dim (near_site s q0 q1) (far_site s q0 q1) s.store a.store)
+      a.chain.center ≡ None → StoreLeft s.chain.num_qubits s.chain.max_bond_dim (near_site s q0 q1) (far_site s q0 q1) s.store a.store)
   pub project : (s : State) (work : List Float) (q : ℕ) (o : Bool) →
       (let a = project_call s work q o in let k = site_of s.chain q in Leaves s work k k (view_projected a.answer).number a)
   pub measure : (s : State) (work : List Float) (q flag : ℕ) (draw : Float) →

@@ -1,6 +1,6 @@
 -- DEMAND 1 of cuts. (e) What the discarded weight is after every call. (f) What a gate leaves that is done, and one that is refused at a cut.
 -- Statements only; `Laws/CutShares` and `Laws/Gates` prove them.
-use Rattle.std.specs.Prelude.{ℕ, ◌+◌, ◌-◌, ◌≤◌, min, max, ◌≡◌, ◌⊎◌, ◌&&◌, cond, eqb, ltb, leb, length, get_or, set, Float}
+use Rattle.std.specs.Prelude.{ℕ, ◌+◌, ◌-◌, ◌≤◌, min, max, ◌≡◌, ◌⊎◌, ◌&&◌, cond, eqb, ltb, leb, length, get_or, set, Float, Err}
 use mathlib.Core.List.{List, [], ◌∷◌, ◌++◌, map, foldl}
 use Rattle.std.specs.Float.{binary64}
 use Rattle.std.specs.Float.Ieee.{add}
@@ -8,15 +8,13 @@ use Rattle.complex.specs.Loops.{tabulate}
 use Rattle.complex.specs.declared.Complex.{Complex}
 use Rattle.gates.specs.Named.{matrix_of}
 use Rattle.gates.specs.declared.NamedGate.{NamedGate}
-use Rattle.model.specs.declared.Applied.{Applied}
-use Rattle.model.specs.declared.Applied.TheVariants as applied
 use Rattle.model.specs.Chain.{Labels, labels_of, bond_discarded}
 use Rattle.model.specs.Slots.{State}
 use Rattle.model.specs.Svd.{Svd, values}
 use Rattle.model.specs.Truncation.{share}
 use Rattle.model.specs.Cut.{pair_of, rank_of}
 use Rattle.model.specs.Routing.{Step, stepped, run_steps}
-use Rattle.model.specs.Answers.{view_applied}
+use Rattle.model.specs.Answers.{Applied, view_applied}
 use Rattle.model.specs.Calls.{After, gate_call, named_gate_call}
 use Rattle.model.specs.Lists.{Call, gate, named, project, measure, reset, left, state_of, final_state}
 use Rattle.model.specs.Statements.Table.{AboveWorkspace, NanIn, gate_steps}
@@ -125,11 +123,11 @@ labels_after l q0 q1 =
 
 -- by 6: the cut is untouched; t is the state that the cuts before it left
 abbrev pub StandsBySix : After Applied → Step → State → Type 0
-StandsBySix a x t = (a.answer ≡ applied.Refused 6) × AboveWorkspace x.site t × (left a ≡ t)
+StandsBySix a x t = (a.answer ≡ Err 6) × AboveWorkspace x.site t × (left a ≡ t)
 
 -- by 7: any centre move of this cut stands too, and the cut is not stored: what is left is the state in which there is a NaN
 abbrev pub StandsBySeven : After Applied → Step → State → Type 0
-StandsBySeven a x t = (a.answer ≡ applied.Refused 7) × NanIn x.gate x.site t (left a)
+StandsBySeven a x t = (a.answer ≡ Err 7) × NanIn x.gate x.site t (left a)
 
 -- `before` are the cuts before it, done by the fold that an accepted gate is
 pub record StopsAt (steps : List Step) (s : State) (a : After Applied) : Type 0 where

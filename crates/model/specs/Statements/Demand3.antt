@@ -1,6 +1,6 @@
 -- DEMAND 3. On a fresh chain of two or more qubits with workspace exponent 5 or more, every list of calls whose gates only move bits and phases answers as the
 -- bits-and-phase machine does, and leaves the chain following it. Statements only; `Laws/Demand3Proof` proves it. Its last sentence, of two gates and their product, stands in `Product`.
-use Rattle.std.specs.Prelude.{ℕ, ◌+◌, ◌-◌, ◌≤◌, ◌<◌, ◌≡◌, List, [], ◌∷◌, T, length, Float}
+use Rattle.std.specs.Prelude.{ℕ, ◌+◌, ◌-◌, ◌≤◌, ◌<◌, ◌≡◌, List, [], ◌∷◌, T, length, Float, Ok}
 use mathlib.Core.Bool.{Bool, not, cond}
 use Rattle.std.specs.Float.{binary64}
 use Rattle.std.specs.Float.Ieee.{fits}
@@ -8,7 +8,6 @@ use Rattle.complex.specs.Complex.{mul_c, is_zero, zero_f, one_f}
 use Rattle.complex.specs.Loops.{each}
 use Rattle.complex.specs.declared.Complex.{Complex}
 use Rattle.gates.specs.Gate.{entry}
-use Rattle.model.specs.declared.Answer.TheVariants as answer
 use Rattle.model.specs.declared.Projected.TheVariants as projected
 use Rattle.model.specs.Chain.{bond_left, bond_right, site_of, qubit_at}
 use Rattle.model.specs.Slots.{State, held, work_room, site_at, amplitude}
@@ -65,7 +64,7 @@ Demand3 =
     (n d exponent : ℕ) (epsilon clamp : Float) (store : List Float) → F64 epsilon → F64 clamp
     → 2 ≤ n → 5 ≤ exponent
     → (let st = start_call n d epsilon clamp exponent store in
-    st.answer ≡ answer.Done
+    st.answer ≡ Ok tt
     → (calls : List Call) → AllF64 calls → T (all_allowed n d (length store) calls)
     → (let s = held st.chain st.store in
     (answers_of calls s ≡ machine_answers n d (length store) calls fresh) × Follows n d (final_state calls s) (machine_after n d (length store) calls fresh)))

@@ -1,13 +1,12 @@
 -- DEMAND 3, its last sentence: gates that stand next to each other on one ordered pair, and their matrix product as one gate in their place.
 -- Statements only; `Laws/Demand3Product` proves them.
-use Rattle.std.specs.Prelude.{ℕ, ◌≤◌, ◌<◌, ◌≡◌, List, [], ◌∷◌, ◌++◌, T, length, replicate, Float}
+use Rattle.std.specs.Prelude.{ℕ, ◌≤◌, ◌<◌, ◌≡◌, List, [], ◌∷◌, ◌++◌, T, length, replicate, Float, Ok}
 use Rattle.complex.specs.Complex.{mul_c, zero_c}
 use Rattle.complex.specs.Loops.{sum_c}
 use Rattle.complex.specs.declared.Complex.{Complex}
 use Rattle.gates.specs.Gate.{entry, gate_of}
 use Rattle.gates.specs.Named.{matrix_of}
 use Rattle.gates.specs.declared.NamedGate.{NamedGate}
-use Rattle.model.specs.declared.Answer.TheVariants as answer
 use Rattle.model.specs.Slots.{State, held}
 use Rattle.model.specs.Phases.{equals}
 use Rattle.model.specs.Calls.{start_call}
@@ -70,7 +69,7 @@ OnFresh P =
     (n d exponent : ℕ) (epsilon clamp : Float) (store : List Float) → F64 epsilon → F64 clamp
     → 2 ≤ n → 5 ≤ exponent
     → (let st = start_call n d epsilon clamp exponent store in
-    st.answer ≡ answer.Done → P n d (length store) (held st.chain st.store))
+    st.answer ≡ Ok tt → P n d (length store) (held st.chain st.store))
 
 -- two gates, and any gate with the entries of their product, the later gate's matrix on the left
 unfoldable pub ProductClause : Type 0

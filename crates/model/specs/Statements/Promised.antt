@@ -1,8 +1,7 @@
 -- EVERY PROMISE that a theorem over the definitions carries, one field each; `Laws/Promises` has the one inhabitant. docs/PROMISES.md goes through the buyer's sentences and
 -- names these fields.
-use Rattle.std.specs.Prelude.{ℕ, ◌+◌, ◌<◌, ◌≡◌, ◌≢◌, true, List, T, Float}
+use Rattle.std.specs.Prelude.{ℕ, ◌+◌, ◌<◌, ◌≡◌, ◌≢◌, true, List, T, Float, Ok}
 use Rattle.complex.specs.declared.Complex.{Complex}
-use Rattle.model.specs.declared.Answer.TheVariants as answer
 use Rattle.model.specs.Slots.{State}
 use Rattle.model.specs.Moves.{established}
 use Rattle.model.specs.Cut.{attempt, adjacent}
@@ -35,7 +34,7 @@ pub record Promised : Type 0 where
   pub call_orderly : (c : Call) (s : State) → T (sound s.chain) → Orderly s.chain.num_qubits s.chain.max_bond_dim (state_of c s).chain
   pub call_sound : (c : Call) (s : State) → T (sound s.chain) → T (sound (state_of c s).chain)
   pub start_sound : (n d : ℕ) (epsilon clamp : Float) (exponent : ℕ) (store : List Float)
-      → (start_call n d epsilon clamp exponent store).answer ≡ answer.Done → T (sound (start_call n d epsilon clamp exponent store).chain)
+      → (start_call n d epsilon clamp exponent store).answer ≡ Ok tt → T (sound (start_call n d epsilon clamp exponent store).chain)
   -- a cut made again is not refused by 6 then; so a cut that 6 refuses is untouched
   pub second_cut_not_6 : (gate : List (List Complex)) (k : ℕ) (s : State) → T (sound s.chain) → k + 1 < s.chain.num_qubits
       → (attempt gate k s).again ≡ true → (attempt gate k (established k (attempt gate k s).state)).refused ≢ 6

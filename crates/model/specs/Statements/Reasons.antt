@@ -7,14 +7,13 @@ use Rattle.complex.specs.Complex.{zero_f}
 use Rattle.complex.specs.declared.Complex.{Complex}
 use Rattle.gates.specs.Named.{matrix_of}
 use Rattle.gates.specs.declared.NamedGate.{NamedGate}
-use Rattle.model.specs.declared.Applied.{Applied}
 use Rattle.model.specs.declared.Reason.{Reason}
 use Rattle.model.specs.declared.Reason.TheVariants.{Floor, Cap, Tolerance, Full}
 use Rattle.model.specs.Slots.{State}
 use Rattle.model.specs.Truncation.{rank, rank_reason}
 use Rattle.model.specs.Cut.{reason_of}
 use Rattle.model.specs.Routing.{Step, stepped}
-use Rattle.model.specs.Answers.{view_applied, told_applied}
+use Rattle.model.specs.Answers.{Applied, view_applied, told_applied}
 use Rattle.model.specs.Calls.{After, gate_call, named_gate_call}
 use Rattle.model.specs.Statements.Table.{gate_steps}
 use Rattle.model.specs.Statements.Demand1Cuts.{cut_svd}

@@ -1,9 +1,8 @@
 -- What a sound chain record is, in propositions: document 01's sentence field by field. `sound_facts` and `facts_sound` (`Laws/SoundFacts`) show that the test `sound` decides them.
-use Rattle.std.specs.Prelude.{ℕ, ◌+◌, ◌-◌, ◌≤◌, ◌<◌, ◌≡◌, List, T, length, get_or, Float}
+use Rattle.std.specs.Prelude.{ℕ, ◌+◌, ◌-◌, ◌≤◌, ◌<◌, ◌≡◌, List, T, length, get_or, Float, Some}
 use Rattle.std.specs.Float.{binary64}
 use Rattle.std.specs.Float.Ieee.{le, lt, to_bits}
 use Rattle.complex.specs.Complex.{zero_f, one_f}
-use Rattle.model.specs.declared.Center.TheVariants.{At}
 use Rattle.model.specs.declared.Chain.{Chain}
 use Rattle.model.specs.Chain.{bond_discarded}
 
@@ -47,7 +46,7 @@ pub record Sound (c : Chain) : Type 0 where
   pub bonds : Bonds c.num_qubits c.bond_high_water c.bond_left c.bond_right
   pub sites : Undone c.num_qubits c.logical_to_site c.site_to_logical
   pub qubits : Undone c.num_qubits c.site_to_logical c.logical_to_site
-  pub centre : (k : ℕ) → c.center ≡ At k → k < c.num_qubits
+  pub centre : (k : ℕ) → c.center ≡ Some k → k < c.num_qubits
   -- past the last bond, that between n - 2 and n - 1, the discarded weight is +0 by its bits; -0 has other bits, and so has a NaN (document 02, W6)
   pub past_last_bond : (k : ℕ) → c.num_qubits ≤ k + 1 → k < 63 → to_bits binary64 (bond_discarded c k) ≡ 0
   pub sizes : Sized c

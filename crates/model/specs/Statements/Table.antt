@@ -1,14 +1,13 @@
 -- Document 01's table 'How a call is turned down': for each call its rows in the order in which they are tried, each a number and the ground on which it is answered.
 -- The grounds are propositions written from the document and the Rust, and cite none of the tests in the calls' definitions. What they cite of the definitions computes
 -- values and states: a gate's entries; the pair's decomposition, its values and the rank that is kept; the moves of the centre; the route; and the state that a cut leaves.
-use Rattle.std.specs.Prelude.{ℕ, ◌+◌, ◌*◌, ◌^◌, ◌≤◌, ◌<◌, min, ◌≡◌, ◌⊎◌, false, List, [], ◌∷◌, T, negsuc, length, get_or, Float}
+use Rattle.std.specs.Prelude.{ℕ, ◌+◌, ◌*◌, ◌^◌, ◌≤◌, ◌<◌, min, ◌≡◌, ◌⊎◌, false, List, [], ◌∷◌, T, negsuc, length, get_or, Float, Some}
 use Rattle.std.specs.Float.{nan, inf, fin, binary64}
 use Rattle.std.specs.Float.Ieee.{mul, le, lt}
 use Rattle.complex.specs.Complex.{zero_f, one_f}
 use Rattle.complex.specs.declared.Complex.{Complex}
 use Rattle.gates.specs.Gate.{entry}
 use Rattle.model.specs.declared.Chain.{Chain}
-use Rattle.model.specs.declared.Center.TheVariants.{At}
 use Rattle.model.specs.Chain.{site_of}
 use Rattle.model.specs.Slots.{State, lefts, rights}
 use Rattle.model.specs.Svd.{Svd, values, raw_value}
@@ -96,7 +95,7 @@ CanLose k s =
 
 -- it keeps a centre: one is recorded, or it can lose weight
 abbrev pub KeepsCentre : ℕ → State → Type 0
-KeepsCentre k s = ((j : ℕ) × (s.chain.center ≡ At j)) ⊎ CanLose k s
+KeepsCentre k s = ((j : ℕ) × (s.chain.center ≡ Some j)) ⊎ CanLose k s
 
 -- t is the state in which the pair is first decomposed: with the centre brought onto it if one is kept, else as it stands
 abbrev pub FirstIn : ℕ → State → State → Type 0

@@ -1,7 +1,6 @@
 -- W9. A workspace exponent of 64 or more is no cap: no call answers 6. From 63 to 255 nothing but the record's own field tells one exponent from another.
 -- Statements only; `Laws/NeverSix` and `Laws/AsAt63` prove them.
-use Rattle.std.specs.Prelude.{ℕ, ◌≤◌, ◌≡◌, ◌≢◌, List, Float}
-use Rattle.model.specs.declared.Answer.TheVariants as answer
+use Rattle.std.specs.Prelude.{ℕ, ◌≤◌, ◌≡◌, ◌≢◌, List, Float, Ok}
 use Rattle.model.specs.declared.Chain.{Chain}
 use Rattle.model.specs.Chain.{ChainSettings, bonds_of, labels_of, cut_totals_of, built}
 use Rattle.model.specs.Slots.{State, held}
@@ -15,7 +14,7 @@ pub record NeverSix : Type 0 where
   -- and after any list of calls from an accepted start
   pub after_start_lem : (n d : ℕ) (epsilon clamp : Float) (exponent : ℕ) (store : List Float) → 64 ≤ exponent
       → (let st = start_call n d epsilon clamp exponent store in
-      st.answer ≡ answer.Done → (cs : List Call) (c : Call) → (answer_of c (final_state cs (held st.chain st.store))).number ≢ 6)
+      st.answer ≡ Ok tt → (cs : List Call) (c : Call) → (answer_of c (final_state cs (held st.chain st.store))).number ≢ 6)
   -- environments make no cut
   pub left_environment : (s : State) (work out : List Float) (from site : ℕ) → (view_contracted (left_environment_call s work out from site).answer).number ≢ 6
   pub right_environment : (s : State) (work out : List Float) (site to : ℕ) → (view_contracted (right_environment_call s work out site to).answer).number ≢ 6
@@ -35,7 +34,7 @@ pub record AsAt63 : Type 0 where
   pub start : (n d : ℕ) (epsilon clamp : Float) (exponent : ℕ) (store : List Float) → exponent ≤ 255
       → (let a = start_call n d epsilon clamp exponent store in
       let b = start_call n d epsilon clamp 63 store in
-      (a.answer ≡ b.answer) × (a.answer ≡ answer.Done → held a.chain a.store ≡ under exponent (held b.chain b.store)))
+      (a.answer ≡ b.answer) × (a.answer ≡ Ok tt → held a.chain a.store ≡ under exponent (held b.chain b.store)))
   -- a list of calls, on any state, of a sound record or not
   pub calls : (cs : List Call) (s : State) (e : ℕ) → 63 ≤ e → e ≤ 255
       → (answers_of cs (under e s) ≡ answers_of cs (under 63 s)) × (final_state cs (under e s) ≡ under e (final_state cs (under 63 s)))
