@@ -3,7 +3,7 @@ use Rattle.std.specs.Prelude.{◌≡◌, refl, Bool, true, false, not, ◌&&◌,
 use Rattle.std.proofs.Common.{sym, ◌∙◌, le_refl, zero-mul, mul-pos, lit<, le-ltb}
 use Rattle.std.specs.Bool.{beq}
 use Rattle.std.proofs.Math.Nat.{sub_self, eq_of_mul-eq-mul_right}
-use Rattle.std.specs.Float.{nan, inf, fin, binary64}
+use Rattle.std.specs.Float.{nan, inf, fin, binary64, float_is_finite}
 use Rattle.std.specs.Float.Ieee.{up, down, round, sum, add, sub, neg, eq, of_bits}
 use Rattle.std.specs.Float.Ieee.Exact.{HasValue, round_exact}
 use Rattle.std.specs.Float.Ieee.Fits.{down_pos}
@@ -51,6 +51,13 @@ finite_minus (inf true) = refl
 finite_minus (fin s m e) = minus_self s (m * up e * down e) (down e * down e) (mul-pos (down_pos e) (down_pos e))
 
 -- ---- laws
+
+-- the library's test is this one
+pub std_finite : (x : Float) → float_is_finite x ≡ finite x
+unfolding float_is_finite
+std_finite nan = refl
+std_finite (inf s) = refl
+std_finite (fin s m e) = refl
 
 -- each element of a finite gate is finite
 pub finite_entry : (g : List (List Complex)) (r c : ℕ) → r < 4 → c < 4 → T (all_finite g) → T (finite_c (entry g r c))

@@ -3,7 +3,6 @@
 #![tactic(auto)]
 
 ghost use Rattle.std.specs.Prelude.{◌≡◌};
-ghost use Rattle.std.specs.Float.Ieee.Scale.{finite};
 ghost use Rattle.gates.specs.Gate.{number, four, swap_bits, swap_gate_qubits};
 ghost use Rattle.complex.specs.Loops.{every};
 ghost use Rattle.gates.specs.Finite.{finite_c, all_finite};
@@ -19,18 +18,20 @@ pub enum NamedGate {
     Cz,
 }
 
-// A named gate's matrix. Every zero is +0, the imaginary part of -1 too.
-#[tactic(auto, unfolding(crate::specs::Named::matrix_of, crate::specs::Named::named_entry, crate::specs::Gate::gate_of))]
-pub fn matrix_4x4(name: NamedGate) -> [[Complex; 4]; 4]
-    ensures { result ≡ matrix_of name }
-{
-    let z = Complex { re: 0.0, im: 0.0 };
-    let o = Complex { re: 1.0, im: 0.0 };
-    let m = Complex { re: -1.0, im: 0.0 };
-    match name {
-        NamedGate::Swap => [[o, z, z, z], [z, z, o, z], [z, o, z, z], [z, z, z, o]],
-        NamedGate::Cx => [[o, z, z, z], [z, o, z, z], [z, z, z, o], [z, z, o, z]],
-        NamedGate::Cz => [[o, z, z, z], [z, o, z, z], [z, z, o, z], [z, z, z, m]],
+impl NamedGate {
+    // A named gate's matrix. Every zero is +0, the imaginary part of -1 too.
+    #[tactic(auto, unfolding(crate::specs::Named::matrix_of, crate::specs::Named::named_entry, crate::specs::Gate::gate_of))]
+    pub fn matrix_4x4(self) -> [[Complex; 4]; 4]
+        ensures { result ≡ matrix_of self }
+    {
+        let z = Complex::ZERO;
+        let o = Complex::from(1.0);
+        let m = Complex::from(-1.0);
+        match self {
+            NamedGate::Swap => [[o, z, z, z], [z, z, o, z], [z, o, z, z], [z, z, z, o]],
+            NamedGate::Cx => [[o, z, z, z], [z, o, z, z], [z, z, z, o], [z, z, o, z]],
+            NamedGate::Cz => [[o, z, z, z], [z, o, z, z], [z, z, o, z], [z, z, z, m]],
+        }
     }
 }
 
@@ -54,19 +55,12 @@ pub fn swap_gate_qubits(gate: [[Complex; 4]; 4]) -> [[Complex; 4]; 4]
     ]
 }
 
-// Whether x is neither a NaN nor an infinity. Where it is one, x - x is a NaN.
-#[tactic(auto, using(crate::specs::Finite::finite_minus))]
-pub fn finite(x: f64) -> bool
-    ensures { result ≡ finite x }
-{
-    x - x == 0.0
-}
-
-#[tactic(auto, unfolding(crate::specs::Finite::finite_c))]
+// Whether both parts are finite.
+#[tactic(auto, using(crate::specs::Finite::std_finite), unfolding(crate::specs::Finite::finite_c))]
 fn finite_parts(z: Complex) -> bool
     ensures { result ≡ finite_c z }
 {
-    finite(z.re) & finite(z.im)
+    z.re.is_finite() & z.im.is_finite()
 }
 
 #[tactic(auto, unfolding(complex::specs::Loops::every))]
