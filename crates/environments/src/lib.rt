@@ -8,17 +8,9 @@ ghost use Rattle.model.specs.Environment.{left_across, right_across, left_env, r
 ghost use Rattle.walks.specs.Products.{env_of};
 ghost use Rattle.environments.specs.Walk.{Walkable, Crossing};
 
-use columns::wide;
 use gauge::copy_numbers;
 use model::Chain;
 use walks::{identity, left_across, right_across};
-
-// How far b is above a, 0 where it is not.
-fn above(a: usize, b: usize) -> usize
-    ensures { result ≡ b - a }
-{
-    if a < b { b - a } else { 0 }
-}
 
 // ---- the left environment
 
@@ -35,23 +27,23 @@ fn left_step(store: &[f64], work: &mut [f64], d: usize, k: usize, bl: usize, br:
 
 // The left environment of a site, the sites from `from` on contracted: its dimension.
 pub fn compute_left_env(
-    chain: Chain,
+    chain: &Chain,
     store: &[f64],
     work: &mut [f64],
     from: usize,
     site: usize,
 ) -> usize
-    requires walkable { Walkable chain store.now work.old }
-    requires from_bound { (from < chain.num_qubits) × (site ≤ chain.num_qubits) }
-    ensures value { result ≡ (left_env from site (held chain store.now)).dim }
-    ensures work_after { take (2 * (result * result)) work.new ≡ (left_env from site (held chain store.now)).entries }
+    requires walkable { Walkable chain.now store.now work.old }
+    requires from_bound { (from < chain.now.num_qubits) × (site ≤ chain.now.num_qubits) }
+    ensures value { result ≡ (left_env from site (held chain.now store.now)).dim }
+    ensures work_after { take (2 * (result * result)) work.new ≡ (left_env from site (held chain.now store.now)).entries }
 {
     let d = chain.max_bond_dim;
-    let mut dim = wide(chain.bond_left[from]);
+    let mut dim = usize::from(chain.bond_left[from]);
     let e = 2 * (dim * dim);
     identity(&mut work[..e], dim);
     for k in from..site {
-        let br = wide(chain.bond_right[k]);
+        let br = usize::from(chain.bond_right[k]);
         left_step(store, work, d, k, dim, br);
         dim = br;
     }
@@ -73,26 +65,24 @@ fn right_step(store: &[f64], work: &mut [f64], d: usize, k: usize, bl: usize, br
 
 // The right environment of a site, the sites from `to` back to the next one contracted: its dimension.
 pub fn compute_right_env(
-    chain: Chain,
+    chain: &Chain,
     store: &[f64],
     work: &mut [f64],
     site: usize,
     to: usize,
 ) -> usize
-    requires walkable { Walkable chain store.now work.old }
-    requires to_bound { to < chain.num_qubits }
-    ensures value { result ≡ (right_env site to (held chain store.now)).dim }
-    ensures work_after { take (2 * (result * result)) work.new ≡ (right_env site to (held chain store.now)).entries }
+    requires walkable { Walkable chain.now store.now work.old }
+    requires to_bound { to < chain.now.num_qubits }
+    ensures value { result ≡ (right_env site to (held chain.now store.now)).dim }
+    ensures work_after { take (2 * (result * result)) work.new ≡ (right_env site to (held chain.now store.now)).entries }
 {
     let d = chain.max_bond_dim;
-    let n = above(site, to);
-    let mut dim = wide(chain.bond_right[to]);
+    let mut dim = usize::from(chain.bond_right[to]);
     let e = 2 * (dim * dim);
     identity(&mut work[..e], dim);
-    for k in 0..n {
-        let at = to - k;
-        let bl = wide(chain.bond_left[at]);
-        right_step(store, work, d, at, bl, dim);
+    for k in (site + 1..to + 1).rev() {
+        let bl = usize::from(chain.bond_left[k]);
+        right_step(store, work, d, k, bl, dim);
         dim = bl;
     }
     dim

@@ -1,11 +1,9 @@
 -- One turn of each walk, and none; a move, from what each of its parts leaves.
 use Prim.Native.Nat.{ℕ, suc, ◌+◌, ◌-◌, ◌*◌, ◌≤◌, ◌<◌}
-use Rattle.std.specs.Prelude.{◌≡◌, ◌⊎◌}
+use Rattle.std.specs.Prelude.{◌≡◌, ◌⊎◌, Option, None, Some}
 use Rattle.std.proofs.Common.{sym, ap, ◌∙◌, ⊎_elim}
 use native.Mathlib.Omega.{arith}
 use borrow.Author.Tests.{le-leb, lt-leb}
-use Rattle.model.specs.declared.Center.{Center}
-use Rattle.model.specs.declared.Center.TheVariants.{Unknown, At}
 use Rattle.model.specs.declared.WeightSide.TheVariants.{Left, Right}
 use Rattle.model.specs.Slots.{State}
 use Rattle.model.specs.Moves.{step_right, step_left, walk_right, walk_left, centered, moved, established, centered_on, prepared, prepared_on}
@@ -54,19 +52,19 @@ module _ {A B : Type 0} (n far : ℕ) (l : 0 < n) (came : (A × (far ≡ n - 1))
   ends_within = let h = end_below in (omega arith, omega arith)
 
 -- where no centre is recorded, and where one is
-module _ (k : ℕ) (center : Center) where
-  pub on_unknown : (s u : State) → center ≡ Unknown → u ≡ established k s → u ≡ centered_on k center s
+module _ (k : ℕ) (center : Option ℕ) where
+  pub on_unknown : (s u : State) → center ≡ None → u ≡ established k s → u ≡ centered_on k center s
   on_unknown s u e eu = rw (e, eu)
 
-  pub prepared_unknown : center ≡ Unknown → (s : State) → prepared Right (centered_on k center s) ≡ prepared_on k center s
+  pub prepared_unknown : center ≡ None → (s : State) → prepared Right (centered_on k center s) ≡ prepared_on k center s
   prepared_unknown e s = rw e
 
-  module _ (from : ℕ) (e : center ≡ At from) where
+  module _ (from : ℕ) (e : center ≡ Some from) where
     pub on_centre : (s u : State) → u ≡ moved from k s → u ≡ centered_on k center s
     on_centre s u eu = rw (e, eu)
 
     pub on_own : (s : State) → s.chain.center ≡ center → from ≡ k → s ≡ centered_on k center s
-    on_own s own o = rw (e, o) (sym (moved_still k s (own ∙ e ∙ ap At o)))
+    on_own s own o = rw (e, o) (sym (moved_still k s (own ∙ e ∙ ap Some o)))
 
     pub prepared_right : from ≤ k → (s : State) → prepared Right (centered_on k center s) ≡ prepared_on k center s
     prepared_right l s = rw (e, le-leb from k l)

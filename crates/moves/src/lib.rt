@@ -11,10 +11,9 @@ ghost use Rattle.model.specs.Moves.{right_matrix, left_matrix, step_right, step_
 ghost use Rattle.moves.specs.Ready.{Ready};
 ghost use Rattle.moves.specs.Steps.{factored_room, Pair, factors_right, factors_left, stored_right, stored_left};
 
-use columns::{smaller, wide};
 use fills::{fill_columns, fill_rows_conj};
 use gauge::{absorb_left, absorb_right, copy_numbers, left_matrix, right_matrix};
-use model::{Center, Chain, WeightSide};
+use model::{Chain, WeightSide};
 use qr::factorize_gram_schmidt;
 
 // How many floats the factored list of a matrix of so many rows and columns takes.
@@ -22,8 +21,7 @@ fn factored_room(high: usize, cols: usize) -> usize
     requires { (high ≤ 256) × (cols ≤ 128) }
     ensures { result ≡ factored_room high cols }
 {
-    let rank = smaller(high, cols);
-    2 * (cols * high + rank * cols)
+    2 * (cols * high + high.min(cols) * cols)
 }
 
 // ---- what a step reads: the site as a matrix, factored at the front of the work slice, and behind it a copy of the neighbour
@@ -171,120 +169,99 @@ fn step_left(
     chi
 }
 
-fn with_bond(chain: Chain, k: usize, bond: usize) -> Chain
+// The bond between the sites k and k + 1.
+fn set_bond(chain: &mut Chain, k: usize, bond: usize)
     requires { (k < 63) × (bond ≤ 128) }
-    ensures { result ≡ with_bond chain k bond }
+    ensures { chain.new ≡ with_bond chain.old k bond }
 {
-    let mut out = chain;
-    out.bond_left[k + 1] = bond as u8;
-    out.bond_right[k] = bond as u8;
-    out
+    chain.bond_left[k + 1] = bond as u8;
+    chain.bond_right[k] = bond as u8;
 }
 
 // ---- the chain
 
 // The centre goes from site k to site k + 1.
-fn shift_center_right(chain: Chain, store: &mut [f64], work: &mut [f64], k: usize) -> Chain
-    requires ready { Ready chain store.old work.old }
-    requires k_bound { k + 1 < chain.num_qubits }
-    ensures { held result store.new ≡ step_right k (held chain store.old) }
+fn shift_center_right(chain: &mut Chain, store: &mut [f64], work: &mut [f64], k: usize)
+    requires ready { Ready chain.old store.old work.old }
+    requires k_bound { k + 1 < chain.old.num_qubits }
+    ensures { held chain.new store.new ≡ step_right k (held chain.old store.old) }
 {
     let d = chain.max_bond_dim;
-    let bl = wide(chain.bond_left[k]);
-    let bond = wide(chain.bond_right[k]);
-    let br = wide(chain.bond_right[k + 1]);
+    let bl = usize::from(chain.bond_left[k]);
+    let bond = usize::from(chain.bond_right[k]);
+    let br = usize::from(chain.bond_right[k + 1]);
     let chi = step_right(store, work, d, k, bl, bond, br);
-    with_bond(chain, k, chi)
+    set_bond(chain, k, chi);
 }
 
 // The centre goes from site k + 1 to site k.
-fn shift_center_left(chain: Chain, store: &mut [f64], work: &mut [f64], k: usize) -> Chain
-    requires ready { Ready chain store.old work.old }
-    requires k_bound { k + 1 < chain.num_qubits }
-    ensures { held result store.new ≡ step_left k (held chain store.old) }
+fn shift_center_left(chain: &mut Chain, store: &mut [f64], work: &mut [f64], k: usize)
+    requires ready { Ready chain.old store.old work.old }
+    requires k_bound { k + 1 < chain.old.num_qubits }
+    ensures { held chain.new store.new ≡ step_left k (held chain.old store.old) }
 {
     let d = chain.max_bond_dim;
-    let bl = wide(chain.bond_left[k]);
-    let bond = wide(chain.bond_left[k + 1]);
-    let br = wide(chain.bond_right[k + 1]);
+    let bl = usize::from(chain.bond_left[k]);
+    let bond = usize::from(chain.bond_left[k + 1]);
+    let br = usize::from(chain.bond_right[k + 1]);
     let chi = step_left(store, work, d, k, bl, bond, br);
-    with_bond(chain, k, chi)
+    set_bond(chain, k, chi);
 }
 
 // Steps to the right, from one site to another; none where that is not to the right.
-fn walk_right(chain: Chain, store: &mut [f64], work: &mut [f64], from: usize, to: usize) -> Chain
-    requires ready { Ready chain store.old work.old }
-    requires to_bound { to < chain.num_qubits }
-    ensures { held result store.new ≡ walk_right (to - from) from (held chain store.old) }
+fn walk_right(chain: &mut Chain, store: &mut [f64], work: &mut [f64], from: usize, to: usize)
+    requires ready { Ready chain.old store.old work.old }
+    requires to_bound { to < chain.old.num_qubits }
+    ensures { held chain.new store.new ≡ walk_right (to - from) from (held chain.old store.old) }
 {
-    let mut out = chain;
-    let mut at = from;
-    while at < to {
-        out = shift_center_right(out, store, work, at);
-        at += 1;
+    for at in from..to {
+        shift_center_right(chain, store, work, at);
     }
-    out
 }
 
-fn walk_left(chain: Chain, store: &mut [f64], work: &mut [f64], from: usize, to: usize) -> Chain
-    requires ready { Ready chain store.old work.old }
-    requires from_bound { from < chain.num_qubits }
-    ensures { held result store.new ≡ walk_left (from - to) from (held chain store.old) }
+fn walk_left(chain: &mut Chain, store: &mut [f64], work: &mut [f64], from: usize, to: usize)
+    requires ready { Ready chain.old store.old work.old }
+    requires from_bound { from < chain.old.num_qubits }
+    ensures { held chain.new store.new ≡ walk_left (from - to) from (held chain.old store.old) }
 {
-    let mut out = chain;
-    let mut at = from;
-    while to < at {
-        at -= 1;
-        out = shift_center_left(out, store, work, at);
+    for at in (to..from).rev() {
+        shift_center_left(chain, store, work, at);
     }
-    out
 }
 
 // The centre goes from one site to another.
-pub fn move_center(
-    chain: Chain,
-    store: &mut [f64],
-    work: &mut [f64],
-    from: usize,
-    to: usize,
-) -> Chain
-    requires ready { Ready chain store.old work.old }
-    requires from_bound { (from < chain.num_qubits) × (to < chain.num_qubits) }
-    ensures { held result store.new ≡ moved from to (held chain store.old) }
+pub fn move_center(chain: &mut Chain, store: &mut [f64], work: &mut [f64], from: usize, to: usize)
+    requires ready { Ready chain.old store.old work.old }
+    requires from_bound { (from < chain.old.num_qubits) × (to < chain.old.num_qubits) }
+    ensures { held chain.new store.new ≡ moved from to (held chain.old store.old) }
 {
-    let out = walk_right(chain, store, work, from, to);
-    let back = walk_left(out, store, work, from, to);
-    Chain {
-        center: Center::At(to),
-        ..back
-    }
+    walk_right(chain, store, work, from, to);
+    walk_left(chain, store, work, from, to);
+    chain.center = Some(to);
 }
 
 // A centre at `to` where none is recorded: first to the end away from it, across every site.
-pub fn establish_center(chain: Chain, store: &mut [f64], work: &mut [f64], to: usize) -> Chain
-    requires ready { Ready chain store.old work.old }
-    requires to_bound { to < chain.num_qubits }
-    ensures { held result store.new ≡ established to (held chain store.old) }
+pub fn establish_center(chain: &mut Chain, store: &mut [f64], work: &mut [f64], to: usize)
+    requires ready { Ready chain.old store.old work.old }
+    requires to_bound { to < chain.old.num_qubits }
+    ensures { held chain.new store.new ≡ established to (held chain.old store.old) }
 {
     let last = chain.num_qubits - 1;
     let far = if 2 * to <= last { last } else { 0 };
-    let out = move_center(chain, store, work, far, last - far);
-    move_center(out, store, work, last - far, to)
+    move_center(chain, store, work, far, last - far);
+    move_center(chain, store, work, last - far, to);
 }
 
 // The centre onto a site, from where it is.
-pub fn center_on(chain: Chain, store: &mut [f64], work: &mut [f64], k: usize) -> Chain
-    requires ready { Ready chain store.old work.old }
-    requires k_bound { k < chain.num_qubits }
-    ensures { held result store.new ≡ centered_on k chain.center (held chain store.old) }
+pub fn center_on(chain: &mut Chain, store: &mut [f64], work: &mut [f64], k: usize)
+    requires ready { Ready chain.old store.old work.old }
+    requires k_bound { k < chain.old.num_qubits }
+    ensures { held chain.new store.new ≡ centered_on k chain.old.center (held chain.old store.old) }
 {
-    let center = chain.center;
-    match center {
-        Center::Unknown => establish_center(chain, store, work, k),
-        Center::At(from) => if from == k {
-            // a routed gate's next swap finds the centre on its pair
-            chain
-        } else {
+    match chain.center {
+        None => establish_center(chain, store, work, k),
+        // a routed gate's next swap finds the centre on its pair
+        Some(from) => if from != k {
             move_center(chain, store, work, from, k)
         },
     }
@@ -298,45 +275,34 @@ struct Aim {
 }
 
 // The site of the pair k, k + 1 that is nearer to the centre.
-fn aim_at(center: Center, k: usize) -> Aim
+fn aim_at(center: Option<usize>, k: usize) -> Aim
     requires { k < 64 }
     ensures { (result.site ≤ k + 1) × ((s : State) → prepared result.side (centered_on result.site center s) ≡ prepared_on k center s) }
 {
     match center {
-        Center::Unknown => Aim {
+        Some(from) if k < from => Aim {
+            side: WeightSide::Left,
+            site: k + 1,
+        },
+        _ => Aim {
             side: WeightSide::Right,
             site: k,
-        },
-        Center::At(from) => if from <= k {
-            Aim {
-                side: WeightSide::Right,
-                site: k,
-            }
-        } else {
-            Aim {
-                side: WeightSide::Left,
-                site: k + 1,
-            }
         },
     }
 }
 
-// What a cut starts from: the side that it shall leave the centre on, and the chain.
-#[derive(Clone, Copy)]
-pub struct Prepared {
-    pub side: WeightSide,
-    pub chain: Chain,
-}
-
-// The centre onto the pair k, k + 1, and the side that the cut shall leave it on.
-pub fn prepare_center(chain: Chain, store: &mut [f64], work: &mut [f64], k: usize) -> Prepared
-    requires ready { Ready chain store.old work.old }
-    requires k_bound { k + 1 < chain.num_qubits }
-    ensures { prepared result.side (held result.chain store.new) ≡ prepared_on k chain.center (held chain store.old) }
+// The centre onto the pair k, k + 1: the side that the cut shall leave it on.
+pub fn prepare_center(
+    chain: &mut Chain,
+    store: &mut [f64],
+    work: &mut [f64],
+    k: usize,
+) -> WeightSide
+    requires ready { Ready chain.old store.old work.old }
+    requires k_bound { k + 1 < chain.old.num_qubits }
+    ensures { prepared result (held chain.new store.new) ≡ prepared_on k chain.old.center (held chain.old store.old) }
 {
-    let center = chain.center;
-    let aim = aim_at(center, k);
-    let side = aim.side;
-    let out = center_on(chain, store, work, aim.site);
-    Prepared { side, chain: out }
+    let aim = aim_at(chain.center, k);
+    center_on(chain, store, work, aim.site);
+    aim.side
 }

@@ -7,14 +7,14 @@ use Rattle.moves.proofs.walk_left.Goals as goal
 
 pub loop-at-preserved : goal.loop-at-preserved
 loop-at-preserved c = let i = c.loop-at.invariant in let t = c.loop-at-test.true in
-    let b : (c.loop-at.at - 1) + 1 < c.loop-at.out.num_qubits = omega (arith, t, i.4) in
-    let s = left_stays c.loop-at.out c.shift_center_left-out.result c.loop-at.store c.shift_center_left-out.new.store c.loop-at.work i.0 (c.loop-at.at - 1) b c.shift_center_left-out.ensures in (
-      ready_after c.loop-at.out c.shift_center_left-out.result c.loop-at.store c.shift_center_left-out.new.store c.loop-at.work c.shift_center_left-out.new.work i.0 s c.shift_center_left-out.auto.work,
+    let b : (c.loop-at.at - 1) + 1 < c.loop-at.chain.num_qubits = omega (arith, t, i.4) in
+    let s = left_stays c.loop-at.chain c.shift_center_left.new.chain c.loop-at.store c.shift_center_left.new.store c.loop-at.work i.0 (c.loop-at.at - 1) b c.shift_center_left.ensures in (
+      ready_after c.loop-at.chain c.shift_center_left.new.chain c.loop-at.store c.shift_center_left.new.store c.loop-at.work c.shift_center_left.new.work i.0 s c.shift_center_left.auto.work,
       s.qubits ∙ i.1,
       s.long ∙ i.2,
-      c.shift_center_left-out.auto.work ∙ i.3,
+      c.shift_center_left.auto.work ∙ i.3,
       omega (arith, s.qubits, i.4),
-      rw (c.shift_center_left-out.ensures, ← left_turn) i.5,
+      rw (c.shift_center_left.ensures, ← left_turn) i.5,
     )
 
 pub returns : goal.returns

@@ -8,7 +8,4 @@ use Rattle.moves.specs.Ready.{Ready}
 use Rattle.moves.proofs.walk_left.Given as goal
 
 abbrev pub invariant-loop-at : goal.invariant-loop-at
-invariant-loop-at l = Ready l.out l.store l.work × (l.out.num_qubits ≡ l.initial.out.num_qubits) × (length l.store ≡ length l.initial.store) × (length l.work ≡ length l.initial.work) × (l.at < l.out.num_qubits) × (walk_left (l.at - l.to) l.at (held l.out l.store) ≡ walk_left (l.from - l.to) l.from (held l.initial.out l.initial.store))
-
-abbrev pub decreases-loop-at : goal.decreases-loop-at
-decreases-loop-at l = l.at - l.to
+invariant-loop-at l = Ready l.chain l.store l.work × (l.chain.num_qubits ≡ l.initial.chain.num_qubits) × (length l.store ≡ length l.initial.store) × (length l.work ≡ length l.initial.work) × (l.at < l.chain.num_qubits) × (walk_left (l.at - l.to) l.at (held l.chain l.store) ≡ walk_left (l.from - l.to) l.from (held l.initial.chain l.initial.store))

@@ -8,7 +8,4 @@ use Rattle.moves.specs.Ready.{Ready}
 use Rattle.moves.proofs.walk_right.Given as goal
 
 abbrev pub invariant-loop-at : goal.invariant-loop-at
-invariant-loop-at l = Ready l.out l.store l.work × (l.out.num_qubits ≡ l.initial.out.num_qubits) × (length l.store ≡ length l.initial.store) × (length l.work ≡ length l.initial.work) × (walk_right (l.to - l.at) l.at (held l.out l.store) ≡ walk_right (l.to - l.from) l.from (held l.initial.out l.initial.store))
-
-abbrev pub decreases-loop-at : goal.decreases-loop-at
-decreases-loop-at l = l.to - l.at
+invariant-loop-at l = Ready l.chain l.store l.work × (l.chain.num_qubits ≡ l.initial.chain.num_qubits) × (length l.store ≡ length l.initial.store) × (length l.work ≡ length l.initial.work) × (walk_right (l.to - l.at) l.at (held l.chain l.store) ≡ walk_right (l.to - l.from) l.from (held l.initial.chain l.initial.store))
