@@ -83,35 +83,40 @@ module _ (c : Chain) (store : List Float) (from site : ℕ) where
   left_done k dim work h l = let e : k - from ≡ site - from = omega (arith, h.within) in rw e at h.env
 
 module _ (c : Chain) (store : List Float) (site to : ℕ) where
-  -- k sites are contracted, from `to` back
+  -- the sites from `to` back to k + 1 are contracted
   pub record RightAt (k dim : ℕ) (work : List Float) : Type 0 where
-    pub within : k ≤ to - site
-    pub bond : dim ≡ bond_right c (to - k)
-    pub env : env_of dim (take (2 * (dim * dim)) work) ≡ each k (λ k. right_step (held c store) (to - k)) (identity_env (bond_right c to))
+    pub past : k ≤ to
+    pub within : to - k ≤ to - site
+    pub bond : dim ≡ bond_right c k
+    pub env : env_of dim (take (2 * (dim * dim)) work) ≡ each (to - k) (λ n. right_step (held c store) (to - n)) (identity_env (bond_right c to))
 
-  pub right_start : (dim : ℕ) (work : List Float) → dim ≡ bond_right c to → take (2 * (dim * dim)) work ≡ (identity_env dim).entries → RightAt 0 dim work
+  pub right_start : (dim : ℕ) (work : List Float) → dim ≡ bond_right c to → take (2 * (dim * dim)) work ≡ (identity_env dim).entries → RightAt to dim work
   right_start dim work p q =
-      let e : to - 0 ≡ to = omega arith in
-      record { within = omega arith; bond = rw e p; env = rw each_none (identity_env_lem dim (bond_right c to) (take (2 * (dim * dim)) work) p q) }
+      let e : to - to ≡ 0 = omega arith in
+      record { past = omega arith; within = omega arith; bond = p; env = rw (e, each_none) (identity_env_lem dim (bond_right c to) (take (2 * (dim * dim)) work) p q) }
 
-  pub right_turn : (k dim bl : ℕ) (work next : List Float) → T (sound c) → to < c.num_qubits → RightAt k dim work → k < to - site → bl ≡ bond_left c (to - k)
-      → take (2 * (bl * bl)) next ≡ (right_across bl dim (site_at (held c store) (to - k)) (env_of dim (take (2 * (dim * dim)) work))).entries → RightAt (k + 1) bl next
+  pub right_turn : (k dim bl : ℕ) (work next : List Float) → T (sound c) → to < c.num_qubits → RightAt k dim work → site < k → bl ≡ bond_left c k
+      → take (2 * (bl * bl)) next ≡ (right_across bl dim (site_at (held c store) k) (env_of dim (take (2 * (dim * dim)) work))).entries → RightAt (k - 1) bl next
   right_turn k dim bl work next s m h l q e =
-      let at = to - k in
-      let step : ℕ → Env → Env = λ k. right_step (held c store) (to - k) in
+      let step : ℕ → Env → Env = λ n. right_step (held c store) (to - n) in
       let z = identity_env (bond_right c to) in
-      let p : to - (k + 1) + 1 ≡ to - k = omega arith in
+      let one : to - (k - 1) ≡ to - k + 1 = omega (arith, h.past) in
+      let here : to - (to - k) ≡ k = omega (arith, h.past) in
+      let p : k - 1 + 1 ≡ k = omega arith in
       record {
-        within = omega arith;
-        bond = q ∙ sym ((sound_facts c s).bonds.neighbours (to - (k + 1)) (omega arith) ∙ ap (bond_left c) p);
+        past = omega (arith, h.past);
+        within = omega (arith, h.past);
+        bond = q ∙ sym ((sound_facts c s).bonds.neighbours (k - 1) (omega (arith, h.past)) ∙ ap (bond_left c) p);
         env =
-            right_env_lem bl dim (site_at (held c store) at) (take (2 * (bl * bl)) next) (env_of dim (take (2 * (dim * dim)) work)) e
-            ∙ ap (right_across bl dim (site_at (held c store) at)) h.env
-            ∙ ap (λ (b : ℕ). right_across bl b (site_at (held c store) at) (each k step z)) h.bond
-            ∙ ap (λ (b : ℕ). right_across b (bond_right c at) (site_at (held c store) at) (each k step z)) q
-            ∙ sym (each_more k step z);
+            right_env_lem bl dim (site_at (held c store) k) (take (2 * (bl * bl)) next) (env_of dim (take (2 * (dim * dim)) work)) e
+            ∙ ap (right_across bl dim (site_at (held c store) k)) h.env
+            ∙ ap (λ (b : ℕ). right_across bl b (site_at (held c store) k) (each (to - k) step z)) h.bond
+            ∙ ap (λ (b : ℕ). right_across b (bond_right c k) (site_at (held c store) k) (each (to - k) step z)) q
+            ∙ ap (λ (j : ℕ). right_step (held c store) j (each (to - k) step z)) (sym here)
+            ∙ sym (each_more (to - k) step z)
+            ∙ ap (λ (n : ℕ). each n step z) (sym one);
       }
 
-  pub right_done : (k n dim : ℕ) (work : List Float) → RightAt k dim work → n ≡ to - site → n ≤ k → env_of dim (take (2 * (dim * dim)) work) ≡ right_env site to (held c store)
+  pub right_done : (k dim : ℕ) (work : List Float) → RightAt k dim work → k ≤ site → env_of dim (take (2 * (dim * dim)) work) ≡ right_env site to (held c store)
   unfolding right_env
-  right_done k n dim work h p l = let e : k ≡ to - site = omega (arith, h.within) in rw e at h.env
+  right_done k dim work h l = let e : to - k ≡ to - site = omega (arith, h.within) in rw e at h.env

@@ -2,7 +2,7 @@
 // the front of the work slice, as many complex numbers as its dimension squared.
 #![tactic(auto)]
 
-ghost use Rattle.std.specs.Prelude.{◌≡◌, ◌++◌, ◌-◌, ◌*◌, ◌<◌, ◌≤◌, length, take, drop};
+ghost use Rattle.std.specs.Prelude.{◌≡◌, ◌++◌, ◌*◌, ◌<◌, ◌≤◌, length, take, drop};
 ghost use Rattle.model.specs.Slots.{held, slot_of};
 ghost use Rattle.model.specs.Environment.{left_across, right_across, left_env, right_env};
 ghost use Rattle.walks.specs.Products.{env_of};
@@ -80,9 +80,10 @@ pub fn compute_right_env(
     let mut dim = usize::from(chain.bond_right[to]);
     let e = 2 * (dim * dim);
     identity(&mut work[..e], dim);
-    for k in (site + 1..to + 1).rev() {
-        let bl = usize::from(chain.bond_left[k]);
-        right_step(store, work, d, k, bl, dim);
+    // across the sites to, to - 1, .., site + 1
+    for k in (site..to).rev() {
+        let bl = usize::from(chain.bond_left[k + 1]);
+        right_step(store, work, d, k + 1, bl, dim);
         dim = bl;
     }
     dim

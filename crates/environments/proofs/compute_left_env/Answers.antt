@@ -16,34 +16,34 @@ pub bounds-chain-from : goal.bounds-chain-from
 bounds-chain-from c = (first_fits _ _ _ _ _ c.requires.walkable c.requires.from_bound.0 refl).0
 
 pub slice_bounds-identity-end : goal.slice_bounds-identity-end
-slice_bounds-identity-end c = let f = first_fits c.args.chain c.args.store.now c.args.work.now c.args.from c.wide-dim.result c.requires.walkable c.requires.from_bound.0 c.wide-dim.ensures in omega arith
+slice_bounds-identity-end c = let f = first_fits c.args.chain.now c.args.store.now c.args.work.now c.args.from c.from-dim.result c.requires.walkable c.requires.from_bound.0 c.from-dim.ensures in omega arith
 
 pub slice_bounds-identity-end-2 : goal.slice_bounds-identity-end-2
-slice_bounds-identity-end-2 c = let f = first_fits c.args.chain c.args.store.now c.args.work.now c.args.from c.wide-dim.result c.requires.walkable c.requires.from_bound.0 c.wide-dim.ensures in sym (length-take-le _ _ (omega arith))
+slice_bounds-identity-end-2 c = let f = first_fits c.args.chain.now c.args.store.now c.args.work.now c.args.from c.from-dim.result c.requires.walkable c.requires.from_bound.0 c.from-dim.ensures in sym (length-take-le _ _ (omega arith))
 
 pub identity-requires : goal.identity-requires
-identity-requires c = let f = first_fits c.args.chain c.args.store.now c.args.work.now c.args.from c.wide-dim.result c.requires.walkable c.requires.from_bound.0 c.wide-dim.ensures in (f.1, f.2, length-take-le _ _ (omega arith))
+identity-requires c = let f = first_fits c.args.chain.now c.args.store.now c.args.work.now c.args.from c.from-dim.result c.requires.walkable c.requires.from_bound.0 c.from-dim.ensures in (f.1, f.2, length-take-le _ _ (omega arith))
 
 pub loop-k-init : goal.loop-k-init
 loop-k-init c =
-    let f = first_fits c.args.chain c.args.store.now c.args.work.now c.args.from c.wide-dim.result c.requires.walkable c.requires.from_bound.0 c.wide-dim.ensures in
-    let e = 2 * (c.wide-dim.result * c.wide-dim.result) in
+    let f = first_fits c.args.chain.now c.args.store.now c.args.work.now c.args.from c.from-dim.result c.requires.walkable c.requires.from_bound.0 c.from-dim.ensures in
+    let e = 2 * (c.from-dim.result * c.from-dim.result) in
     let w = c.args.work.now in
     let n : length (take e w) ≡ e = length-take-le e w (omega arith) in
     let l : length c.identity.new.out ≡ e = c.identity.auto.out ∙ n in
-    (simp (length-append, length-drop) (omega (arith, l)), left_start c.args.chain c.args.store.now c.args.from c.args.site c.wide-dim.result _ c.wide-dim.ensures (take_at c.identity.new.out _ e l ∙ c.identity.ensures))
+    (simp (length-append, length-drop) (omega (arith, l)), left_start c.args.chain.now c.args.store.now c.args.from c.args.site c.from-dim.result _ c.from-dim.ensures (take_at c.identity.new.out _ e l ∙ c.identity.ensures))
 
 pub bounds-chain-k : goal.bounds-chain-k
-bounds-chain-k c = let x = crossing c.args.chain c.args.store.now c.args.work.now c.args.work.now c.loop-k.k _ _ c.requires.walkable refl (omega arith) refl refl in omega (arith, x.place)
+bounds-chain-k c = let x = crossing c.args.chain.now c.args.store.now c.args.work.now c.args.work.now c.loop-k.k _ _ c.requires.walkable refl (omega arith) refl refl in omega (arith, x.place)
 
 pub left_step-requires : goal.left_step-requires
 left_step-requires c =
-    let l : c.loop-k.k < c.args.chain.num_qubits = omega arith in
-    crossing c.args.chain c.args.store.now c.args.work.now c.loop-k.work c.loop-k.k c.loop-k.dim c.wide-br.result c.requires.walkable c.loop-k.invariant.0 l (c.loop-k.invariant.1.bond l) c.wide-br.ensures
+    let l : c.loop-k.k < c.args.chain.now.num_qubits = omega arith in
+    crossing c.args.chain.now c.args.store.now c.args.work.now c.loop-k.work c.loop-k.k c.loop-k.dim c.from-br.result c.requires.walkable c.loop-k.invariant.0 l (c.loop-k.invariant.1.bond l) c.from-br.ensures
 
 pub loop-k-preserved : goal.loop-k-preserved
-loop-k-preserved c = (c.left_step.auto.work ∙ c.loop-k.invariant.0, left_turn c.args.chain c.args.store.now c.args.from c.args.site c.loop-k.k c.loop-k.dim c.wide-br.result c.loop-k.work _ c.requires.walkable.sound_record c.requires.from_bound.1 c.loop-k.invariant.1 c.loop-k-test.true c.wide-br.ensures c.left_step.ensures)
+loop-k-preserved c = (c.left_step.auto.work ∙ c.loop-k.invariant.0, left_turn c.args.chain.now c.args.store.now c.args.from c.args.site c.loop-k.k c.loop-k.dim c.from-br.result c.loop-k.work _ c.requires.walkable.sound_record c.requires.from_bound.1 c.loop-k.invariant.1 c.loop-k-test.true c.from-br.ensures c.left_step.ensures)
 
 pub returns : goal.returns
-returns c = let e = left_done c.args.chain c.args.store.now c.args.from c.args.site c.loop-k.k c.loop-k.dim c.loop-k.work c.loop-k.invariant.1 c.loop-k-test.false in
+returns c = let e = left_done c.args.chain.now c.args.store.now c.args.from c.args.site c.loop-k.k c.loop-k.dim c.loop-k.work c.loop-k.invariant.1 c.loop-k-test.false in
     record { value = ap (λ (x : Env). x.dim) e; work_after = ap (λ (x : Env). x.entries) e }

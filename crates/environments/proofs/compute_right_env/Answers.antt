@@ -1,5 +1,5 @@
 -- A first bond is within the cap, and its square in the work slice.
-use Rattle.std.proofs.Common.{ℕ, ◌-◌, ◌*◌, ◌≤◌, ◌<◌, ◌≡◌, refl, sym, ap, ◌∙◌, List, Float, length, take, arith, length-append, length-drop, mul-le-mul}
+use Rattle.std.proofs.Common.{ℕ, ◌+◌, ◌-◌, ◌*◌, ◌≤◌, ◌<◌, ◌≡◌, refl, sym, ap, ◌∙◌, List, Float, length, take, arith, length-append, length-drop, mul-le-mul}
 use lib.Seq.{length-take-le, take_at}
 use Rattle.model.specs.declared.Chain.{Chain}
 use Rattle.model.specs.Chain.{bond_left, bond_right}
@@ -16,34 +16,37 @@ pub bounds-chain-to : goal.bounds-chain-to
 bounds-chain-to c = (first_fits _ _ _ _ _ c.requires.walkable c.requires.to_bound refl).0
 
 pub slice_bounds-identity-end : goal.slice_bounds-identity-end
-slice_bounds-identity-end c = let f = first_fits c.args.chain c.args.store.now c.args.work.now c.args.to c.wide-dim.result c.requires.walkable c.requires.to_bound c.wide-dim.ensures in omega arith
+slice_bounds-identity-end c = let f = first_fits c.args.chain.now c.args.store.now c.args.work.now c.args.to c.from-dim.result c.requires.walkable c.requires.to_bound c.from-dim.ensures in omega arith
 
 pub slice_bounds-identity-end-2 : goal.slice_bounds-identity-end-2
-slice_bounds-identity-end-2 c = let f = first_fits c.args.chain c.args.store.now c.args.work.now c.args.to c.wide-dim.result c.requires.walkable c.requires.to_bound c.wide-dim.ensures in sym (length-take-le _ _ (omega arith))
+slice_bounds-identity-end-2 c = let f = first_fits c.args.chain.now c.args.store.now c.args.work.now c.args.to c.from-dim.result c.requires.walkable c.requires.to_bound c.from-dim.ensures in sym (length-take-le _ _ (omega arith))
 
 pub identity-requires : goal.identity-requires
-identity-requires c = let f = first_fits c.args.chain c.args.store.now c.args.work.now c.args.to c.wide-dim.result c.requires.walkable c.requires.to_bound c.wide-dim.ensures in (f.1, f.2, length-take-le _ _ (omega arith))
+identity-requires c = let f = first_fits c.args.chain.now c.args.store.now c.args.work.now c.args.to c.from-dim.result c.requires.walkable c.requires.to_bound c.from-dim.ensures in (f.1, f.2, length-take-le _ _ (omega arith))
 
 pub loop-k-init : goal.loop-k-init
 loop-k-init c =
-    let f = first_fits c.args.chain c.args.store.now c.args.work.now c.args.to c.wide-dim.result c.requires.walkable c.requires.to_bound c.wide-dim.ensures in
-    let e = 2 * (c.wide-dim.result * c.wide-dim.result) in
+    let f = first_fits c.args.chain.now c.args.store.now c.args.work.now c.args.to c.from-dim.result c.requires.walkable c.requires.to_bound c.from-dim.ensures in
+    let e = 2 * (c.from-dim.result * c.from-dim.result) in
     let w = c.args.work.now in
     let n : length (take e w) ≡ e = length-take-le e w (omega arith) in
     let l : length c.identity.new.out ≡ e = c.identity.auto.out ∙ n in
-    (simp (length-append, length-drop) (omega (arith, l)), c.above-n.ensures, right_start c.args.chain c.args.store.now c.args.site c.args.to c.wide-dim.result _ c.wide-dim.ensures (take_at c.identity.new.out _ e l ∙ c.identity.ensures))
+    (simp (length-append, length-drop) (omega (arith, l)), right_start c.args.chain.now c.args.store.now c.args.site c.args.to c.from-dim.result _ c.from-dim.ensures (take_at c.identity.new.out _ e l ∙ c.identity.ensures))
 
-pub bounds-chain-at : goal.bounds-chain-at
-bounds-chain-at c = let x = crossing c.args.chain c.args.store.now c.args.work.now c.args.work.now (c.args.to - c.loop-k.k) _ _ c.requires.walkable refl (omega arith) refl refl in omega (arith, x.place)
+pub bounds-chain-k : goal.bounds-chain-k
+bounds-chain-k c = let x = crossing c.args.chain.now c.args.store.now c.args.work.now c.args.work.now c.loop-k.k _ _ c.requires.walkable refl (omega (arith, c.loop-k.invariant.1.past)) refl refl in omega (arith, x.place)
 
 pub right_step-requires : goal.right_step-requires
 right_step-requires c =
-    let l : c.args.to - c.loop-k.k < c.args.chain.num_qubits = omega arith in
-    crossing c.args.chain c.args.store.now c.args.work.now c.loop-k.work (c.args.to - c.loop-k.k) c.wide-bl.result c.loop-k.dim c.requires.walkable c.loop-k.invariant.0 l c.wide-bl.ensures c.loop-k.invariant.2.bond
+    let l : c.loop-k.k < c.args.chain.now.num_qubits = omega (arith, c.loop-k.invariant.1.past) in
+    let e : c.loop-k.k - 1 + 1 ≡ c.loop-k.k = omega arith in
+    rw e (crossing c.args.chain.now c.args.store.now c.args.work.now c.loop-k.work c.loop-k.k c.from-bl.result c.loop-k.dim c.requires.walkable c.loop-k.invariant.0 l (rw e at c.from-bl.ensures) c.loop-k.invariant.1.bond)
 
 pub loop-k-preserved : goal.loop-k-preserved
-loop-k-preserved c = (c.right_step.auto.work ∙ c.loop-k.invariant.0, c.loop-k.invariant.1, right_turn c.args.chain c.args.store.now c.args.site c.args.to c.loop-k.k c.loop-k.dim c.wide-bl.result c.loop-k.work _ c.requires.walkable.sound_record c.requires.to_bound c.loop-k.invariant.2 (omega (arith, c.loop-k.invariant.1)) c.wide-bl.ensures c.right_step.ensures)
+loop-k-preserved c =
+    let e : c.loop-k.k - 1 + 1 ≡ c.loop-k.k = omega arith in
+    (c.right_step.auto.work ∙ c.loop-k.invariant.0, right_turn c.args.chain.now c.args.store.now c.args.site c.args.to c.loop-k.k c.loop-k.dim c.from-bl.result c.loop-k.work _ c.requires.walkable.sound_record c.requires.to_bound c.loop-k.invariant.1 c.loop-k-test.true (rw e at c.from-bl.ensures) (rw e at c.right_step.ensures))
 
 pub returns : goal.returns
-returns c = let e = right_done c.args.chain c.args.store.now c.args.site c.args.to c.loop-k.k c.above-n.result c.loop-k.dim c.loop-k.work c.loop-k.invariant.2 c.above-n.ensures c.loop-k-test.false in
+returns c = let e = right_done c.args.chain.now c.args.store.now c.args.site c.args.to c.loop-k.k c.loop-k.dim c.loop-k.work c.loop-k.invariant.1 c.loop-k-test.false in
     record { value = ap (λ (x : Env). x.dim) e; work_after = ap (λ (x : Env). x.entries) e }
