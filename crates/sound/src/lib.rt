@@ -7,8 +7,7 @@ ghost use Rattle.complex.specs.Loops.{every};
 ghost use Rattle.model.specs.Sound.{within, share01, settings_fit, entry_fits, undoes, center_fits, discarded_fits, sound};
 
 use bytes_le::to_bits;
-use columns::wide;
-use model::{Center, Chain};
+use model::Chain;
 
 // Whether x is from low to high.
 fn is_within(low: usize, high: usize, x: usize) -> bool
@@ -31,14 +30,14 @@ pub fn settings_fit(n: usize, d: usize, epsilon: f64, clamp: f64, exponent: u8) 
     is_within(1, 64, n) & is_within(1, 128, d) & is_share(epsilon) & is_share(clamp)
 }
 
-// Whether the entries from n on are 0.
+// Whether the entries from n on are 0. This loop and those below leave no entry out, so that many are compared at once.
 fn zeros_from(xs: &[u8; 64], n: usize) -> bool
     requires { n ≤ 64 }
     ensures { result ≡ every 64 (λ i. ltb i n || eqb (get_or xs.now i 0) 0) }
 {
     let mut ok = true;
-    for i in n..64usize {
-        ok = ok & (xs[i] == 0);
+    for x in &xs[n..] {
+        ok = ok & (*x == 0);
     }
     ok
 }
@@ -50,9 +49,8 @@ fn bonds_within(bonds: &[u8; 64], n: usize, high: u8) -> bool
     ensures { result ≡ every 64 (entry_fits n bonds.now (within 1 high)) }
 {
     let mut ok = true;
-    for i in 0..n {
-        let x = bonds[i];
-        ok = ok & ((1 <= x) & (x <= high));
+    for x in &bonds[..n] {
+        ok = ok & ((1 <= *x) & (*x <= high));
     }
     ok & zeros_from(bonds, n)
 }
@@ -62,10 +60,9 @@ fn neighbours_agree<'a>(right: &'a [u8; 64], left: &'a [u8; 64], n: usize) -> bo
     requires { (1 ≤ n) × (n ≤ 64) }
     ensures { result ≡ every 63 (λ i. leb n (i + 1) || eqb (get_or right.now i 0) (get_or left.now (i + 1) 0)) }
 {
-    let last = n - 1;
     let mut ok = true;
-    for i in 0..last {
-        ok = ok & (right[i] == left[i + 1]);
+    for (a, b) in right[..n - 1].iter().zip(&left[1..]) {
+        ok = ok & (*a == *b);
     }
     ok
 }
@@ -75,9 +72,8 @@ fn bonds_fit<'a>(left: &'a [u8; 64], right: &'a [u8; 64], n: usize, high: u8) ->
     requires { (1 ≤ n) × (n ≤ 64) }
     ensures { result ≡ (eqb (get_or left.now 0 0) 1 && eqb (get_or right.now (n - 1) 0) 1 && every 63 (λ i. leb n (i + 1) || eqb (get_or right.now i 0) (get_or left.now (i + 1) 0)) && every 64 (entry_fits n left.now (within 1 high)) && every 64 (entry_fits n right.now (within 1 high))) }
 {
-    let last = n - 1;
     (left[0] == 1)
-        & (right[last] == 1)
+        & (right[n - 1] == 1)
         & neighbours_agree(right, left, n)
         & bonds_within(left, n, high)
         & bonds_within(right, n, high)
@@ -89,7 +85,7 @@ fn comes_back(back: &[u8; 64], n: usize, s: usize, i: usize) -> bool
     requires { n ≤ 64 }
     ensures { result ≡ (ltb s n && eqb (get_or back.now s 0) i) }
 {
-    (s < n) & (wide(back[s % 64]) == i)
+    (s < n) & (usize::from(back[s % 64]) == i)
 }
 
 // Whether `there` goes from below n to below n, and `back` comes back from it.
@@ -98,19 +94,19 @@ fn is_undone<'a>(there: &'a [u8; 64], back: &'a [u8; 64], n: usize) -> bool
     ensures { result ≡ undoes n there.now back.now }
 {
     let mut ok = true;
-    for i in 0..n {
-        ok = ok & comes_back(back, n, wide(there[i]), i);
+    for (i, s) in there[..n].iter().enumerate() {
+        ok = ok & comes_back(back, n, usize::from(*s), i);
     }
     ok & zeros_from(there, n)
 }
 
 // Whether the centre is unknown or a site of the chain.
-fn center_fits(center: Center, n: usize) -> bool
+fn center_fits(center: Option<usize>, n: usize) -> bool
     ensures { result ≡ center_fits center n }
 {
     match center {
-        Center::Unknown => true,
-        Center::At(k) => k < n,
+        None => true,
+        Some(k) => k < n,
     }
 }
 
@@ -120,16 +116,16 @@ fn discarded_fits(bond_discarded: &[f64; 63], n: usize) -> bool
     ensures { result ≡ discarded_fits n bond_discarded.now }
 {
     let mut ok = true;
-    for i in n - 1..63usize {
-        ok = ok & (to_bits(bond_discarded[i]) == 0);
+    for x in &bond_discarded[n - 1..] {
+        ok = ok & (to_bits(*x) == 0);
     }
     ok
 }
 
 // Whether a chain record is sound. The parts are looked at where the settings and the widest bond so
 // far fit, so that the chain's length is within the arrays and the widest bond is a byte.
-pub fn is_sound(chain: Chain) -> bool
-    ensures { result ≡ sound chain }
+pub fn is_sound(chain: &Chain) -> bool
+    ensures { result ≡ sound chain.now }
 {
     let n = chain.num_qubits;
     let high = chain.bond_high_water;

@@ -1,16 +1,16 @@
-use borrow.Author.Rules.{rules}
-use mathlib.Core.Path.{sym}
-use native.Mathlib.Nat.{le_antisymm}
+use Rattle.std.proofs.Common.{◌∙◌, sym, ap, le_antisymm}
 use Rattle.complex.specs.Loops.{every_none, every_more}
-use Rattle.sound.specs.First.{every_parted}
+use Rattle.model.specs.Sound.{within}
+use Rattle.sound.specs.First.{every_taken, every_parted}
 use Rattle.sound.proofs.bonds_within.Goals as goal
 
-pub loop-i-init : goal.loop-i-init
-loop-i-init c = (search rules, rw every_none)
+pub loop-x-init : goal.loop-x-init
+loop-x-init c = rw every_none
 
-pub loop-i-preserved : goal.loop-i-preserved
-loop-i-preserved c = (search rules, rw (every_more, c.loop-i.invariant.1))
+pub loop-x-preserved : goal.loop-x-preserved
+loop-x-preserved c = rw (every_more, c.loop-x.invariant)
 
 pub returns : goal.returns
-returns c = let e = le_antisymm c.loop-i.invariant.0 c.loop-i-test.false in
-    rw (c.loop-i.invariant.1, c.zeros_from.ensures, e) (sym (every_parted _ 64 _ _ c.requires))
+returns c = let a = c.args in
+    let e = (rw (le_antisymm c.loop-x.auto.x-index-end c.loop-x-test.false) at c.loop-x.invariant) ∙ every_taken 64 a.bonds.now c.told-bonds 0 a.n c.requires (λ k. within 1 a.high) in
+    rw (e, c.zeros_from.ensures) (sym (every_parted _ 64 _ _ c.requires))

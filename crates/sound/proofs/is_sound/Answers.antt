@@ -39,7 +39,7 @@ discarded_fits-requires c = let h = bounds _ _ _ _ _ _ _ _ c.settings_fit.ensure
 pub returns-then-settings_fit-is_within : goal.returns-then-settings_fit-is_within
 unfolding sound bonds_fit sized
 returns-then-settings_fit-is_within c =
-    let x = c.args.chain in
+    let x = c.args.chain.now in
     let l : length x.bond_left ≡ 64 = search rules in
     let r : length x.bond_right ≡ 64 = search rules in
     let s : length x.logical_to_site ≡ 64 = search rules in
