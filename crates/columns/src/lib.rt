@@ -1,7 +1,7 @@
 // What the kernels share. Runs of complex numbers in a slice of f64: a run's norm, runs that are scaled or made zero in
 // place, rows read out of a matrix, and the rest of a slot cleared. A loop counts numbers, since number k stands at two
 // places of the slice, and since two runs of one slice may overlap.
-#![tactic(auto)]
+#![tactic(auto, using(complex::specs::Loops::each_none, complex::specs::Loops::each_more, complex::specs::Numbers::stores_numbers), unfolding(model::specs::Columns::l2_norm, model::specs::Columns::scaled_to, model::specs::Columns::zeroed))]
 
 ghost use Rattle.std.specs.Prelude.{◌≡◌, ◌++◌, ◌+◌, ◌-◌, ◌*◌, ◌<◌, ◌≤◌, length, replicate, take};
 ghost use Rattle.complex.specs.Complex.{conj_c, zero_f};
