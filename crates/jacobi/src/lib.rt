@@ -1,8 +1,8 @@
 // One-sided Jacobi rotations, in place. The slice holds, in numbers, a matrix of `high` rows and `wide` columns, by columns,
 // from 0 on, and the product of the rotations, `wide` by `wide`, by columns, from wide * high on.
-#![tactic(auto)]
+#![tactic(auto, using(complex::specs::Loops::each_none, complex::specs::Loops::each_more, complex::specs::Loops::between_none, complex::specs::Loops::between_more), unfolding(model::specs::Jacobi::skipped, model::specs::Jacobi::tangent, model::specs::Jacobi::rotation, model::specs::Jacobi::pair_step, model::specs::Jacobi::row_of_pairs, model::specs::Jacobi::sweep))]
 
-ghost use Rattle.std.specs.Prelude.{◌≡◌, ◌+◌, ◌*◌, ◌<◌, ◌≤◌};
+ghost use Rattle.std.specs.Prelude.{◌≡◌, ◌+◌, ◌*◌, ◌<◌, ◌≤◌, Bool, ◌||◌};
 ghost use Rattle.complex.specs.Numbers.{count};
 ghost use Rattle.model.specs.Jacobi as jacobi;
 ghost use Rattle.jacobi.specs.Factors.{applied, Acts, turned_p, turned_q, Turns, turned_pair};
@@ -165,14 +165,14 @@ fn rotate(w: &mut [f64], base: usize, m: usize, p: usize, q: usize, t: Rotation)
     }
 }
 
-// Columns p and q of both matrices, rotated unless they are skipped. Answers whether a pair was rotated so far.
-fn pair_step(w: &mut [f64], high: usize, wide: usize, p: usize, q: usize, before: bool) -> bool
+// Columns p and q of both matrices, rotated unless they are skipped. Answers whether they were rotated.
+fn pair_step(w: &mut [f64], high: usize, wide: usize, p: usize, q: usize) -> bool
     requires { (p < q) × (q < wide) × (wide * high + wide * wide ≤ count w.old) }
-    ensures { jacobi.swept result w.new ≡ jacobi.pair_step high wide p q (jacobi.swept before w.old) }
+    ensures { (before : Bool) → jacobi.swept (before || result) w.new ≡ jacobi.pair_step high wide p q (jacobi.swept before w.old) }
 {
     let g = gram(w, high, p, q);
     if skipped(g) {
-        return before;
+        return false;
     }
     let t = rotation(g);
     rotate(w, 0, high, p, q, t);
@@ -180,14 +180,14 @@ fn pair_step(w: &mut [f64], high: usize, wide: usize, p: usize, q: usize, before
     true
 }
 
-// Column p with each column after it.
-fn row_of_pairs(w: &mut [f64], high: usize, wide: usize, p: usize, before: bool) -> bool
+// Column p with each column after it. Answers whether a pair was rotated.
+fn row_of_pairs(w: &mut [f64], high: usize, wide: usize, p: usize) -> bool
     requires { (p < wide) × (wide * high + wide * wide ≤ count w.old) }
-    ensures { jacobi.swept result w.new ≡ jacobi.row_of_pairs high wide p (jacobi.swept before w.old) }
+    ensures { (before : Bool) → jacobi.swept (before || result) w.new ≡ jacobi.row_of_pairs high wide p (jacobi.swept before w.old) }
 {
-    let mut rotated = before;
+    let mut rotated = false;
     for q in p + 1..wide {
-        rotated = pair_step(w, high, wide, p, q, rotated);
+        rotated |= pair_step(w, high, wide, p, q);
     }
     rotated
 }
@@ -199,7 +199,7 @@ fn sweep(w: &mut [f64], high: usize, wide: usize) -> bool
 {
     let mut rotated = false;
     for p in 0..wide {
-        rotated = row_of_pairs(w, high, wide, p, rotated);
+        rotated |= row_of_pairs(w, high, wide, p);
     }
     rotated
 }
@@ -209,7 +209,7 @@ pub fn sweeps(w: &mut [f64], high: usize, wide: usize)
     requires { wide * high + wide * wide ≤ count w.old }
     ensures { w.new ≡ jacobi.sweeps high wide 100 w.old }
 {
-    for _ in 0..MAX_SVD_SWEEPS {
+    for k in 0..MAX_SVD_SWEEPS {
         if !sweep(w, high, wide) {
             return;
         }
