@@ -1,35 +1,15 @@
 // What the kernels share. Runs of complex numbers in a slice of f64: a run's norm, runs that are scaled or made zero in
-// place, rows read out of a matrix, and the rest of a slot cleared. The smaller and the larger of two numbers.
-#![tactic(auto)]
+// place, rows read out of a matrix, and the rest of a slot cleared. A loop counts numbers, since number k stands at two
+// places of the slice, and since two runs of one slice may overlap.
+#![tactic(auto, using(complex::specs::Loops::each_none, complex::specs::Loops::each_more, complex::specs::Numbers::stores_numbers), unfolding(model::specs::Columns::l2_norm, model::specs::Columns::scaled_to, model::specs::Columns::zeroed))]
 
-ghost use Rattle.std.specs.Prelude.{◌≡◌, ◌++◌, ◌+◌, ◌-◌, ◌*◌, ◌<◌, ◌≤◌, min, max, length, replicate, take};
+ghost use Rattle.std.specs.Prelude.{◌≡◌, ◌++◌, ◌+◌, ◌-◌, ◌*◌, ◌<◌, ◌≤◌, length, replicate, take};
 ghost use Rattle.complex.specs.Complex.{conj_c, zero_f};
 ghost use Rattle.complex.specs.Numbers.{count, at, numbers};
 ghost use Rattle.model.specs.Columns.{squares, l2_norm, scaled_to, zeroed};
 
 use complex::{Complex, complex_at, set_complex};
 use root::root;
-
-// ---- numbers
-
-// A byte as a number.
-pub fn wide(x: u8) -> usize
-    ensures { result ≡ x }
-{
-    x as usize
-}
-
-pub fn smaller(a: usize, b: usize) -> usize
-    ensures { result ≡ min a b }
-{
-    if a < b { a } else { b }
-}
-
-pub fn larger(a: usize, b: usize) -> usize
-    ensures { result ≡ max a b }
-{
-    if a < b { b } else { a }
-}
 
 // ---- runs
 
@@ -69,7 +49,7 @@ pub fn zero_run(w: &mut [f64], base: usize, n: usize)
     ensures { w.new ≡ zeroed base n w.old }
 {
     for k in 0..n {
-        set_complex(w, base + k, Complex { re: 0.0, im: 0.0 });
+        set_complex(w, base + k, Complex::ZERO);
     }
 }
 
@@ -101,9 +81,7 @@ pub fn conj_row(out: &mut [f64], w: &[f64], base: usize, start: usize, n: usize)
 pub fn fill_zero(s: &mut [f64])
     ensures { s.new ≡ replicate (length s.old) zero_f }
 {
-    for i in 0..s.len() {
-        s[i] = 0.0;
-    }
+    s.fill(0.0);
 }
 
 // Every f64 from `from` on becomes +0.

@@ -1,10 +1,9 @@
 -- One sweep more of `sweeps`, over any limit: with a literal in the place of the limit all its sweeps would be computed. Assumes nothing.
 use mathlib.Core.Path.{◌≡◌}
-use mathlib.Core.Bool.{Bool, true, false, not, cond}
+use mathlib.Core.Bool.{Bool, true, false, cond}
 use mathlib.Core.List.{List}
 use Prim.Native.Nat.{ℕ, suc, ◌+◌, ◌-◌, ◌≤◌, ◌<◌}
 use native.Mathlib.Omega.{arith}
-use borrow.Author.Tests.{not-true, not-false}
 use lib.Ieee.{Float}
 use Rattle.model.specs.Jacobi.{swept, sweep, sweeps}
 
@@ -18,8 +17,8 @@ module _ (high wide limit k : ℕ) (w : List Float) where
     unfolding sweeps
     turn b h = let e : limit - k ≡ suc (limit - (k + 1)) = omega arith in rw (e, ← h)
 
-    pub sweeps_out : (b : Bool) → swept b w' ≡ sweep high wide w → not b ≡ true → sweeps high wide (limit - k) w ≡ w'
-    sweeps_out b h t = rw (turn b h, not-true b t)
+    pub sweeps_out : (b : Bool) → swept b w' ≡ sweep high wide w → b ≡ false → sweeps high wide (limit - k) w ≡ w'
+    sweeps_out b h t = rw (turn b h, t)
 
-    pub sweeps_on : (b : Bool) → swept b w' ≡ sweep high wide w → not b ≡ false → sweeps high wide (limit - k) w ≡ sweeps high wide (limit - (k + 1)) w'
-    sweeps_on b h t = rw (turn b h, not-false b t)
+    pub sweeps_on : (b : Bool) → swept b w' ≡ sweep high wide w → b ≡ true → sweeps high wide (limit - k) w ≡ sweeps high wide (limit - (k + 1)) w'
+    sweeps_on b h t = rw (turn b h, t)

@@ -1,8 +1,8 @@
 // One-sided Jacobi rotations, in place. The slice holds, in numbers, a matrix of `high` rows and `wide` columns, by columns,
 // from 0 on, and the product of the rotations, `wide` by `wide`, by columns, from wide * high on.
-#![tactic(auto)]
+#![tactic(auto, using(complex::specs::Loops::each_none, complex::specs::Loops::each_more, complex::specs::Loops::between_none, complex::specs::Loops::between_more), unfolding(model::specs::Jacobi::skipped, model::specs::Jacobi::tangent, model::specs::Jacobi::rotation, model::specs::Jacobi::pair_step, model::specs::Jacobi::row_of_pairs, model::specs::Jacobi::sweep))]
 
-ghost use Rattle.std.specs.Prelude.{◌≡◌, ◌+◌, ◌*◌, ◌<◌, ◌≤◌};
+ghost use Rattle.std.specs.Prelude.{◌≡◌, ◌+◌, ◌*◌, ◌<◌, ◌≤◌, Bool, ◌||◌};
 ghost use Rattle.complex.specs.Numbers.{count};
 ghost use Rattle.model.specs.Jacobi as jacobi;
 ghost use Rattle.jacobi.specs.Factors.{applied, Acts, turned_p, turned_q, Turns, turned_pair};
@@ -22,7 +22,7 @@ fn gram(w: &[f64], high: usize, p: usize, q: usize) -> Gram
 {
     let mut pp = 0.0;
     let mut qq = 0.0;
-    let mut pq = Complex { re: 0.0, im: 0.0 };
+    let mut pq = Complex::ZERO;
     for r in 0..high {
         let x = complex_at(w, p * high + r);
         let y = complex_at(w, q * high + r);
@@ -74,31 +74,34 @@ struct Factor {
     minus_im: f64,
 }
 
-// The factor a. Where its real part is the NaN, so is every part of every product, and each part may be it. But for this
-// case the compiler would see the negation and undo it.
-fn factor_of(a: Complex) -> Factor
-    ensures { Acts result a }
-{
-    if a.re != a.re {
-        return Factor {
+impl Factor {
+    // The factor a. Where its real part is the NaN, so is every part of every product, and each part may be it. But for this
+    // case the compiler would see the negation and undo it.
+    fn of(a: Complex) -> Factor
+        ensures { Acts result a }
+    {
+        if a.re.is_nan() {
+            return Factor {
+                re: a.re,
+                im: a.re,
+                minus_im: a.re,
+            };
+        }
+        Factor {
             re: a.re,
-            im: a.re,
-            minus_im: a.re,
-        };
+            im: a.im,
+            minus_im: -a.im,
+        }
     }
-    Factor {
-        re: a.re,
-        im: a.im,
-        minus_im: -a.im,
-    }
-}
 
-fn times(a: Factor, z: Complex) -> Complex
-    ensures { result ≡ applied a z }
-{
-    Complex {
-        re: a.re * z.re + a.minus_im * z.im,
-        im: a.re * z.im + a.im * z.re,
+    // The factor times z.
+    fn times(self, z: Complex) -> Complex
+        ensures { result ≡ applied self z }
+    {
+        Complex {
+            re: self.re * z.re + self.minus_im * z.im,
+            im: self.re * z.im + self.im * z.re,
+        }
     }
 }
 
@@ -111,31 +114,33 @@ struct Turn {
     qy: Factor,
 }
 
-fn turn_of(t: Rotation) -> Turn
-    ensures { Turns result t }
-{
-    let c_cx = Complex { re: t.c, im: 0.0 };
-    let s_cx = Complex { re: t.s, im: 0.0 };
-    Turn {
-        px: factor_of(c_cx),
-        py: factor_of(s_cx * t.phase_conj),
-        qx: factor_of(-s_cx),
-        qy: factor_of(c_cx * t.phase_conj),
+impl Turn {
+    fn of(t: Rotation) -> Turn
+        ensures { Turns result t }
+    {
+        let c_cx = Complex::from(t.c);
+        let s_cx = Complex::from(t.s);
+        Turn {
+            px: Factor::of(c_cx),
+            py: Factor::of(s_cx * t.phase_conj),
+            qx: Factor::of(-s_cx),
+            qy: Factor::of(c_cx * t.phase_conj),
+        }
     }
-}
 
-// What a number x of column p becomes, with y in its row of column q.
-fn rotated_p(t: Turn, x: Complex, y: Complex) -> Complex
-    ensures { result ≡ turned_p t x y }
-{
-    times(t.px, x) + times(t.py, y)
-}
+    // What a number x of column p becomes, with y in its row of column q.
+    fn p(self, x: Complex, y: Complex) -> Complex
+        ensures { result ≡ turned_p self x y }
+    {
+        self.px.times(x) + self.py.times(y)
+    }
 
-// What a number y of column q becomes, with x in its row of column p.
-fn rotated_q(t: Turn, x: Complex, y: Complex) -> Complex
-    ensures { result ≡ turned_q t x y }
-{
-    times(t.qx, x) + times(t.qy, y)
+    // What a number y of column q becomes, with x in its row of column p.
+    fn q(self, x: Complex, y: Complex) -> Complex
+        ensures { result ≡ turned_q self x y }
+    {
+        self.qx.times(x) + self.qy.times(y)
+    }
 }
 
 // Numbers i and j, rotated.
@@ -145,8 +150,8 @@ fn rotate_pair(w: &mut [f64], i: usize, j: usize, t: Turn)
 {
     let x = complex_at(w, i);
     let y = complex_at(w, j);
-    set_complex(w, i, rotated_p(t, x, y));
-    set_complex(w, j, rotated_q(t, x, y));
+    set_complex(w, i, t.p(x, y));
+    set_complex(w, j, t.q(x, y));
 }
 
 // Columns p and q, rotated, of the matrix of m rows that stands from base on.
@@ -154,20 +159,20 @@ fn rotate(w: &mut [f64], base: usize, m: usize, p: usize, q: usize, t: Rotation)
     requires { (p < q) × (base + (q * m + m) ≤ count w.old) }
     ensures { w.new ≡ jacobi.rotated t base m p q w.old }
 {
-    let turn = turn_of(t);
+    let turn = Turn::of(t);
     for r in 0..m {
         rotate_pair(w, base + (p * m + r), base + (q * m + r), turn);
     }
 }
 
-// Columns p and q of both matrices, rotated unless they are skipped. Answers whether a pair was rotated so far.
-fn pair_step(w: &mut [f64], high: usize, wide: usize, p: usize, q: usize, before: bool) -> bool
+// Columns p and q of both matrices, rotated unless they are skipped. Answers whether they were rotated.
+fn pair_step(w: &mut [f64], high: usize, wide: usize, p: usize, q: usize) -> bool
     requires { (p < q) × (q < wide) × (wide * high + wide * wide ≤ count w.old) }
-    ensures { jacobi.swept result w.new ≡ jacobi.pair_step high wide p q (jacobi.swept before w.old) }
+    ensures { (before : Bool) → jacobi.swept (before || result) w.new ≡ jacobi.pair_step high wide p q (jacobi.swept before w.old) }
 {
     let g = gram(w, high, p, q);
     if skipped(g) {
-        return before;
+        return false;
     }
     let t = rotation(g);
     rotate(w, 0, high, p, q, t);
@@ -175,14 +180,14 @@ fn pair_step(w: &mut [f64], high: usize, wide: usize, p: usize, q: usize, before
     true
 }
 
-// Column p with each column after it.
-fn row_of_pairs(w: &mut [f64], high: usize, wide: usize, p: usize, before: bool) -> bool
+// Column p with each column after it. Answers whether a pair was rotated.
+fn row_of_pairs(w: &mut [f64], high: usize, wide: usize, p: usize) -> bool
     requires { (p < wide) × (wide * high + wide * wide ≤ count w.old) }
-    ensures { jacobi.swept result w.new ≡ jacobi.row_of_pairs high wide p (jacobi.swept before w.old) }
+    ensures { (before : Bool) → jacobi.swept (before || result) w.new ≡ jacobi.row_of_pairs high wide p (jacobi.swept before w.old) }
 {
-    let mut rotated = before;
+    let mut rotated = false;
     for q in p + 1..wide {
-        rotated = pair_step(w, high, wide, p, q, rotated);
+        rotated |= pair_step(w, high, wide, p, q);
     }
     rotated
 }
@@ -194,7 +199,7 @@ fn sweep(w: &mut [f64], high: usize, wide: usize) -> bool
 {
     let mut rotated = false;
     for p in 0..wide {
-        rotated = row_of_pairs(w, high, wide, p, rotated);
+        rotated |= row_of_pairs(w, high, wide, p);
     }
     rotated
 }
@@ -205,8 +210,7 @@ pub fn sweeps(w: &mut [f64], high: usize, wide: usize)
     ensures { w.new ≡ jacobi.sweeps high wide 100 w.old }
 {
     for k in 0..MAX_SVD_SWEEPS {
-        let rotated = sweep(w, high, wide);
-        if !rotated {
+        if !sweep(w, high, wide) {
             return;
         }
     }

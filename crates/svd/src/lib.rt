@@ -1,12 +1,15 @@
 // The singular value decomposition of a matrix of `high` rows and `wide` columns, in place. The slice holds, in numbers,
 // the matrix and the rotations as in jacobi, and behind them the values, each with the imaginary part +0.
-#![tactic(auto)]
+#![tactic(
+    auto,
+    using(complex::specs::Loops::each_none, complex::specs::Loops::each_more, complex::specs::Loops::between_none, complex::specs::Loops::between_more),
+    unfolding(model::specs::Svd::identity_at, model::specs::Svd::normalised, model::specs::Svd::factored, model::specs::Svd::any_nan, model::specs::Svd::earlier, model::specs::Svd::later, model::specs::Svd::order_of)
+)]
 
-ghost use Rattle.std.specs.Prelude.{◌≡◌, ◌+◌, ◌*◌, ◌<◌, ◌≤◌, length, get_or, take};
-ghost use Rattle.std.specs.Float.Ieee.{is_nan};
+ghost use Rattle.std.specs.Prelude.{◌≡◌, ◌+◌, ◌*◌, ◌<◌, ◌≤◌, length, get_or, take, is_none, IfSome};
 ghost use Rattle.complex.specs.Loops.{each, tabulate};
 ghost use Rattle.complex.specs.Numbers.{count, at};
-ghost use Rattle.model.specs.Svd.{identity_at, values_at, normalised, factored, any_nan, tallied, earlier, later, place, order_of};
+ghost use Rattle.model.specs.Svd.{identity_at, values_at, normalised, factored, any_nan, earlier, later, place, order_of};
 ghost use Rattle.svd.specs.Order.{Below};
 
 use columns::{clear_from, l2_norm, scale_to, zero_run};
@@ -19,7 +22,7 @@ fn set_diagonal(w: &mut [f64], base: usize, n: usize)
     ensures { w.new ≡ identity_at base n w.old }
 {
     for i in 0..n {
-        set_complex(w, base + (i * n + i), Complex { re: 1.0, im: 0.0 });
+        set_complex(w, base + (i * n + i), Complex::from(1.0));
     }
 }
 
@@ -29,11 +32,7 @@ fn normalise(w: &mut [f64], high: usize, wide: usize, clamp: f64, j: usize)
     ensures { w.new ≡ normalised high wide clamp j w.old }
 {
     let norm = l2_norm(w, j * high, high);
-    set_complex(
-        w,
-        wide * high + wide * wide + j,
-        Complex { re: norm, im: 0.0 },
-    );
+    set_complex(w, wide * high + wide * wide + j, Complex::from(norm));
     if norm > clamp {
         scale_to(w, j * high, j * high, high, 1.0 / norm);
     } else {
@@ -50,12 +49,6 @@ fn normalise_columns(w: &mut [f64], high: usize, wide: usize, clamp: f64)
     }
 }
 
-fn is_nan(x: f64) -> bool
-    ensures { result ≡ is_nan x }
-{
-    x != x
-}
-
 // Whether a real part of the n numbers from base on is a NaN.
 fn any_nan(w: &[f64], base: usize, n: usize) -> bool
     requires { base + n ≤ count w.now }
@@ -63,19 +56,9 @@ fn any_nan(w: &[f64], base: usize, n: usize) -> bool
 {
     let mut bad = false;
     for k in 0..n {
-        let z = complex_at(w, base + k);
-        bad = bad | is_nan(z.re);
+        bad |= complex_at(w, base + k).re.is_nan();
     }
     bad
-}
-
-// One more if yes.
-fn tally(yes: bool, c: usize) -> usize
-    requires { c < 256 }
-    ensures value { result ≡ tallied yes c }
-    ensures upper_bound { result ≤ c + 1 }
-{
-    if yes { c + 1 } else { c }
 }
 
 // How many of lower column come before j: those whose value is no less.
@@ -87,8 +70,9 @@ fn count_earlier(w: &[f64], base: usize, j: usize) -> usize
     let own = complex_at(w, base + j);
     let mut c = 0usize;
     for k in 0..j {
-        let other = complex_at(w, base + k);
-        c = tally(own.re <= other.re, c);
+        if own.re <= complex_at(w, base + k).re {
+            c += 1;
+        }
     }
     c
 }
@@ -102,8 +86,9 @@ fn count_later(w: &[f64], base: usize, n: usize, j: usize) -> usize
     let own = complex_at(w, base + j);
     let mut c = 0usize;
     for k in j + 1..n {
-        let other = complex_at(w, base + k);
-        c = tally(own.re < other.re, c);
+        if own.re < complex_at(w, base + k).re {
+            c += 1;
+        }
     }
     c
 }
@@ -117,32 +102,26 @@ fn place_of(w: &[f64], base: usize, n: usize, j: usize) -> usize
     count_earlier(w, base, j) + count_later(w, base, n, j)
 }
 
-// The columns in the order of the n values from base on: downward, equal ones by lower column first.
+// The columns in the order of the n values from base on: downward, equal ones by lower column first. Each is put where the
+// count of those before it says, as the order is defined; no sort of the library is stable and without an allocation.
 fn sort_columns(w: &[f64], base: usize, n: usize) -> [u8; 256]
     requires { (n ≤ 256) × (base + n ≤ count w.now) }
     ensures { result ≡ order_of n (λ k. (at w.now (base + k)).re) }
 {
     let mut order = [0u8; 256];
     for j in 0..n {
-        let k = place_of(w, base, n, j);
-        order[k] = j as u8;
+        order[place_of(w, base, n, j)] = j as u8;
     }
     order
 }
 
-// The order of the values, and whether one of them is a NaN.
-#[derive(Clone, Copy)]
-pub struct Factored {
-    pub nan: bool,
-    pub order: [u8; 256],
-}
-
-// The decomposition of the matrix that w begins with; the rest of w is room for the rotations and the values.
-pub fn svd_jacobi(w: &mut [f64], high: usize, wide: usize, clamp: f64) -> Factored
+// The decomposition of the matrix that w begins with; the rest of w is room for the rotations and the values. Answers their
+// order, or nothing where one is a NaN.
+pub fn svd_jacobi(w: &mut [f64], high: usize, wide: usize, clamp: f64) -> Option<[u8; 256]>
     requires { (wide ≤ 256) × (length w.old ≡ 2 * (wide * high + wide * wide + wide)) }
     ensures w_after { w.new ≡ factored high wide clamp (take (2 * (wide * high)) w.old) }
-    ensures nan_value { result.nan ≡ any_nan wide (λ k. (at w.new (values_at high wide + k)).re) }
-    ensures order_value { result.order ≡ order_of wide (λ k. (at w.new (values_at high wide + k)).re) }
+    ensures nan_value { is_none result ≡ any_nan wide (λ k. (at w.new (values_at high wide + k)).re) }
+    ensures order_value { IfSome result (λ order. order ≡ order_of wide (λ k. (at w.new (values_at high wide + k)).re)) }
 {
     let matrix = wide * high;
     clear_from(w, 2 * matrix);
@@ -150,18 +129,18 @@ pub fn svd_jacobi(w: &mut [f64], high: usize, wide: usize, clamp: f64) -> Factor
     sweeps(w, high, wide);
     normalise_columns(w, high, wide, clamp);
     let base = matrix + wide * wide;
-    let nan = any_nan(w, base, wide);
-    let order = sort_columns(w, base, wide);
-    Factored { nan, order }
+    if any_nan(w, base, wide) {
+        return None;
+    }
+    Some(sort_columns(w, base, wide))
 }
 
 // The values from base on, as many as s has room for, into s in an order of their columns.
-pub fn sorted_values(w: &[f64], base: usize, order: [u8; 256], s: &mut [f64])
-    requires { (length s.old ≤ 256) × (base + length s.old ≤ count w.now) × Below (length s.old) order }
-    ensures { s.new ≡ tabulate (length s.old) (λ g. (at w.now (base + get_or order g 0)).re) }
+pub fn sorted_values(w: &[f64], base: usize, order: &[u8; 256], s: &mut [f64])
+    requires { (length s.old ≤ 256) × (base + length s.old ≤ count w.now) × Below (length s.old) order.now }
+    ensures { s.new ≡ tabulate (length s.old) (λ g. (at w.now (base + get_or order.now g 0)).re) }
 {
-    for g in 0..s.len() {
-        let z = complex_at(w, base + order[g] as usize);
-        s[g] = z.re;
+    for (g, x) in s.iter_mut().enumerate() {
+        *x = complex_at(w, base + usize::from(order[g])).re;
     }
 }

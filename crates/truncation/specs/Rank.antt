@@ -1,11 +1,20 @@
 -- Laws of `leading` and `rank`: the count at place k of a list, and how large a rank is. Assumes nothing.
-use Rattle.std.specs.Prelude.{◌≡◌, refl, true, false, List, [], ◌∷◌, ℕ, zero, suc, ◌+◌, ◌≤◌, ◌<◌, Float, length, get_or, drop}
-use Rattle.std.proofs.Common.{not-suc-le-zero, add-one, arith, drop-cons}
+use Rattle.std.specs.Prelude.{◌≡◌, refl, cond, true, false, List, [], ◌∷◌, ℕ, zero, suc, ◌+◌, ◌≤◌, ◌<◌, Float, length, get_or, drop}
+use Rattle.std.proofs.Common.{ap, not-suc-le-zero, add-one, arith, drop-cons}
+use Rattle.std.specs.List.{prefix_len}
 use Rattle.std.specs.Float.{nan, binary64}
 use Rattle.std.specs.Float.Ieee.{mul, lt}
 use Rattle.complex.specs.Complex.{zero_f}
 use Rattle.model.specs.Truncation.{leading, rank}
 use Rattle.model.proofs.Laws.Reasons.{leading_within}
+
+-- ---- the values that lead are the longest front whose values are all above b
+
+pub leading_front : (b : Float) (s : List Float) → prefix_len (λ x. lt b x) s ≡ leading b s
+leading_front b [] = refl
+leading_front b (x ∷ s) =
+    let e : 1 + prefix_len (λ x. lt b x) s ≡ suc (leading b s) = omega (arith, leading_front b s) in
+    ap (λ (n : ℕ). cond (lt b x) n 0) e
 
 -- ---- from place k on: the value there leads or not, or there is none
 

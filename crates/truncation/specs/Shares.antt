@@ -1,8 +1,6 @@
 -- The share that a cut drops, as the model's list of one or none.
-use Rattle.std.specs.Prelude.{List, [], ◌∷◌, Float}
-use Rattle.truncation.specs.declared.Share.{Share}
-use Rattle.truncation.specs.declared.Share.TheVariants.{Nothing, Of}
+use Rattle.std.specs.Prelude.{List, [], ◌∷◌, Float, Option, None, Some}
 
-abbrev pub shares_of : Share → List Float
-shares_of Nothing = []
-shares_of (Of x) = x ∷ []
+abbrev pub shares_of : Option Float → List Float
+shares_of None = []
+shares_of (Some x) = x ∷ []

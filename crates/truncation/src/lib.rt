@@ -1,12 +1,17 @@
 // What a cut keeps of its singular values, given in order, why so many, and the share of the weight that it drops.
-#![tactic(auto)]
+#![tactic(
+    auto,
+    using(complex::specs::Loops::each_none),
+    unfolding(model::specs::Truncation::resolvable, model::specs::Truncation::share)
+)]
 
 ghost use Rattle.std.specs.Prelude.{◌≡◌, ◌≤◌, length, get_or};
+ghost use Rattle.std.specs.Float.Ieee.{lt};
+ghost use Rattle.std.specs.List.{prefix_len};
 ghost use Rattle.complex.specs.Complex.{zero_f};
-ghost use Rattle.model.specs.Truncation.{leading, rank, reason_by, rank_reason, resolvable, squares_from, share};
+ghost use Rattle.model.specs.Truncation.{rank, reason_by, rank_reason, resolvable, squares_from, share};
 ghost use Rattle.truncation.specs.Shares.{shares_of};
 
-use columns::{larger, smaller};
 use model::Reason;
 
 // 4 * 2^-52, the part of the largest value under which a dropped value counts as rounding.
@@ -16,23 +21,14 @@ const SVD_RESOLUTION: f64 = 8.881784197001252e-16;
 fn first(s: &[f64]) -> f64
     ensures { result ≡ get_or s.now 0 zero_f }
 {
-    if s.len() == 0 {
-        return 0.0;
-    }
-    s[0]
+    s.first().copied().unwrap_or(0.0)
 }
 
 // How many values lead that are above the threshold.
 fn count_leading(s: &[f64], threshold: f64) -> usize
-    ensures { result ≡ leading threshold s.now }
+    ensures { result ≡ prefix_len (λ x. lt threshold x) s.now }
 {
-    for k in 0..s.len() {
-        let above = s[k] > threshold;
-        if !above {
-            return k;
-        }
-    }
-    s.len()
+    s.iter().take_while(|x| **x > threshold).count()
 }
 
 // Why a rank is what it is, where `above` of so many values lead: raised to 1, else lowered, else below their number.
@@ -40,15 +36,14 @@ fn rank_reason(above: usize, max_bond_dim: usize, values: usize) -> Reason
     ensures { result ≡ reason_by above max_bond_dim values }
 {
     if above < 1 {
-        return Reason::Floor;
+        Reason::Floor
+    } else if max_bond_dim < above {
+        Reason::Cap
+    } else if above < values {
+        Reason::Tolerance
+    } else {
+        Reason::Full
     }
-    if max_bond_dim < above {
-        return Reason::Cap;
-    }
-    if above < values {
-        return Reason::Tolerance;
-    }
-    Reason::Full
 }
 
 // How many values are kept, and why so many.
@@ -66,7 +61,7 @@ pub fn truncated_svd_rank(s: &[f64], epsilon: f64, max_bond_dim: usize) -> Ranke
     let above = count_leading(s, threshold);
     let reason = rank_reason(above, max_bond_dim, s.len());
     Ranked {
-        chi: smaller(larger(above, 1), max_bond_dim),
+        chi: above.max(1).min(max_bond_dim),
         reason,
     }
 }
@@ -75,10 +70,7 @@ pub fn truncated_svd_rank(s: &[f64], epsilon: f64, max_bond_dim: usize) -> Ranke
 pub fn discards_resolvable_weight(s: &[f64], chi: usize) -> bool
     ensures { result ≡ resolvable s.now chi }
 {
-    if chi >= s.len() {
-        return false;
-    }
-    s[chi] > SVD_RESOLUTION * s[0]
+    chi < s.len() && s[chi] > SVD_RESOLUTION * s[0]
 }
 
 // The squares of the values from place `from` on, summed.
@@ -87,30 +79,22 @@ fn sum_squares_from(s: &[f64], from: usize) -> f64
     ensures { result ≡ squares_from from s.now }
 {
     let mut sum = 0.0;
-    for j in 0..s.len() - from {
-        let x = s[from + j];
+    for x in &s[from..] {
         sum = sum + x * x;
     }
     sum
 }
 
-// The share of the weight that a cut drops, if there is one.
-#[derive(Clone, Copy)]
-pub enum Share {
-    Nothing,
-    Of(f64),
-}
-
 // The share that keeping chi_kept values drops; nothing where none is dropped or the total is at most 0.
-pub fn discarded_share(s: &[f64], chi_kept: usize) -> Share
+pub fn discarded_share(s: &[f64], chi_kept: usize) -> Option<f64>
     ensures { shares_of result ≡ share s.now chi_kept }
 {
     if chi_kept >= s.len() {
-        return Share::Nothing;
+        return None;
     }
     let total = sum_squares_from(s, 0);
     if total <= 0.0 {
-        return Share::Nothing;
+        return None;
     }
-    Share::Of(sum_squares_from(s, chi_kept) / total)
+    Some(sum_squares_from(s, chi_kept) / total)
 }

@@ -1,13 +1,9 @@
 use mathlib.Core.Path.{◌≡◌}
-use Prim.Native.Nat.{◌≤◌, ◌-◌, ◌+◌}
-use lib.ListN.{length}
+use Prim.Native.Nat.{◌+◌}
 use Rattle.complex.specs.Complex.{scale_c}
 use Rattle.complex.specs.Loops.{each}
 use Rattle.complex.specs.Numbers.{at, store}
 use Rattle.columns.proofs.scale_to.Given as goal
 
 abbrev pub invariant-loop-k : goal.invariant-loop-k
-invariant-loop-k l = (l.k ≤ l.n) × (length l.w ≡ length l.initial.w) × (l.w ≡ each l.k (λ k ys. store ys (l.to + k) (scale_c (at ys (l.from + k)) l.by)) l.initial.w)
-
-abbrev pub decreases-loop-k : goal.decreases-loop-k
-decreases-loop-k l = l.n - l.k
+invariant-loop-k l = l.w ≡ each l.k (λ k ys. store ys (l.to + k) (scale_c (at ys (l.from + k)) l.by)) l.initial.w

@@ -1,10 +1,9 @@
 use mathlib.Core.Path.{◌≡◌, ◌∙◌}
 use mathlib.Core.List.{List}
 use Prim.Native.Nat.{ℕ, ◌+◌, ◌*◌}
-use native.Mathlib.Nat.{le_antisymm}
 use native.Mathlib.Omega.{arith}
 use lib.Ieee.{Float}
-use Rattle.complex.specs.Loops.{each_none, each_more, each_agree}
+use Rattle.complex.specs.Loops.{each_agree}
 use Rattle.complex.specs.Numbers.{at}
 use Rattle.model.specs.Jacobi.{rotated_pair, rotated}
 use Rattle.model.specs.declared.Rotation.{Rotation}
@@ -16,14 +15,8 @@ paired : (turn : Turn) (t : Rotation) → Turns turn t → (i j : ℕ) (w : List
 unfolding rotated_pair
 paired turn t h i j w = rw (h.on_p (at w i) (at w j), h.on_q (at w i) (at w j))
 
-pub loop-r-init : goal.loop-r-init
-loop-r-init c = (omega arith, omega arith, rw each_none)
-
-pub loop-r-preserved : goal.loop-r-preserved
-loop-r-preserved c = (omega arith, omega arith, rw (each_more, c.rotate_pair.ensures, c.loop-r.invariant.2))
-
 pub returns : goal.returns
 unfolding rotated
-returns c = let a = c.args in
-    rw (le_antisymm c.loop-r.invariant.0 c.loop-r-test.false) at c.loop-r.invariant.2
-    ∙ each_agree a.m _ _ a.w.now (λ r w l. paired c.turn_of-turn.result a.t c.turn_of-turn.ensures (a.base + (a.p * a.m + r)) (a.base + (a.q * a.m + r)) w)
+returns c = let a = c.args in let e : c.loop-r.r ≡ a.m = omega arith in
+    rw e at c.loop-r.invariant
+    ∙ each_agree a.m _ _ a.w.now (λ r w l. paired c.of-turn.result a.t c.of-turn.ensures (a.base + (a.p * a.m + r)) (a.base + (a.q * a.m + r)) w)

@@ -1,9 +1,8 @@
 -- The invariant: what is left to do from here ends where all of it ends.
 use mathlib.Core.Path.{◌≡◌}
-use Prim.Native.Nat.{◌≤◌, ◌-◌}
-use lib.ListN.{length}
+use Prim.Native.Nat.{◌-◌}
 use Rattle.model.specs.Jacobi.{sweeps}
 use Rattle.jacobi.proofs.sweeps.Given as goal
 
 abbrev pub invariant-loop-k : goal.invariant-loop-k
-invariant-loop-k l = (l.k ≤ 100) × (length l.w ≡ length l.initial.w) × (sweeps l.high l.wide (100 - l.k) l.w ≡ sweeps l.high l.wide 100 l.initial.w)
+invariant-loop-k l = sweeps l.high l.wide (100 - l.k) l.w ≡ sweeps l.high l.wide 100 l.initial.w

@@ -7,4 +7,4 @@ use Rattle.complex.specs.Numbers.{at}
 use Rattle.svd.proofs.any_nan.Given as goal
 
 abbrev pub invariant-loop-k : goal.invariant-loop-k
-invariant-loop-k l = (l.k ≤ l.n) × (l.bad ≡ each l.k (λ k b. b || is_nan (at l.w (l.base + k)).re) false)
+invariant-loop-k l = l.bad ≡ each l.k (λ k b. b || is_nan (at l.w (l.base + k)).re) false

@@ -7,4 +7,4 @@ use Rattle.model.specs.Svd.{tallied}
 use Rattle.svd.proofs.count_earlier.Given as goal
 
 abbrev pub invariant-loop-k : goal.invariant-loop-k
-invariant-loop-k l = (l.k ≤ l.j) × (l.c ≤ l.k) × (l.c ≡ each l.k (λ k. tallied (le l.own.re (at l.w (l.base + k)).re)) 0)
+invariant-loop-k l = (l.c ≤ l.k) × (l.c ≡ each l.k (λ k. tallied (le l.own.re (at l.w (l.base + k)).re)) 0)

@@ -7,4 +7,4 @@ use Rattle.model.specs.Svd.{tallied}
 use Rattle.svd.proofs.count_later.Given as goal
 
 abbrev pub invariant-loop-k : goal.invariant-loop-k
-invariant-loop-k l = (l.j < l.k) × (l.k ≤ l.n) × (l.c + l.j < l.k) × (l.c ≡ between (l.j + 1) l.k (λ k. tallied (lt l.own.re (at l.w (l.base + k)).re)) 0)
+invariant-loop-k l = (l.c + l.j < l.k) × (l.c ≡ between (l.j + 1) l.k (λ k. tallied (lt l.own.re (at l.w (l.base + k)).re)) 0)

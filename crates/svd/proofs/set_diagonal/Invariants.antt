@@ -7,4 +7,4 @@ use Rattle.complex.specs.Numbers.{store}
 use Rattle.svd.proofs.set_diagonal.Given as goal
 
 abbrev pub invariant-loop-i : goal.invariant-loop-i
-invariant-loop-i l = (l.i ≤ l.n) × (length l.w ≡ length l.initial.w) × (l.w ≡ each l.i (λ i ys. store ys (l.base + (i * l.n + i)) (real one_f)) l.initial.w)
+invariant-loop-i l = l.w ≡ each l.i (λ i ys. store ys (l.base + (i * l.n + i)) (real one_f)) l.initial.w

@@ -8,4 +8,4 @@ use Rattle.model.specs.Svd.{place}
 use Rattle.svd.proofs.sort_columns.Given as goal
 
 abbrev pub invariant-loop-j : goal.invariant-loop-j
-invariant-loop-j l = (l.j ≤ l.n) × (length l.order ≡ 256) × (l.order ≡ each l.j (λ j o. set o (place l.n (λ k. (at l.w (l.base + k)).re) j) j) l.initial.order)
+invariant-loop-j l = l.order ≡ each l.j (λ j o. set o (place l.n (λ k. (at l.w (l.base + k)).re) j) j) l.initial.order

@@ -7,4 +7,4 @@ use Rattle.complex.specs.Numbers.{at}
 use Rattle.svd.proofs.sorted_values.Given as goal
 
 abbrev pub invariant-loop-g : goal.invariant-loop-g
-invariant-loop-g l = (l.g ≤ l.g-end) × (l.g-end ≡ length l.initial.s) × (length l.s ≡ length l.initial.s) × (take l.g l.s ≡ tabulate l.g (λ g. (at l.w (l.base + get_or l.order g 0)).re))
+invariant-loop-g l = take l.g l.s ≡ tabulate l.g (λ g. (at l.w (l.base + get_or l.order g 0)).re)

@@ -1,10 +1,10 @@
 use mathlib.Core.Path.{◌≡◌}
-use Prim.Native.Nat.{◌≤◌, ◌-◌, ◌+◌}
+use Prim.Native.Nat.{◌+◌}
 use lib.Ieee.{nan, binary64, mul}
-use lib.ListN.{length, get_or}
+use lib.ListN.{get_or}
 use Rattle.complex.specs.Complex.{zero_f}
 use Rattle.complex.specs.Loops.{sum_f}
 use Rattle.truncation.proofs.sum_squares_from.Given as goal
 
-abbrev pub invariant-loop-j : goal.invariant-loop-j
-invariant-loop-j l = (l.j ≤ l.j-end) × (l.j-end ≡ length l.s - l.from) × (l.sum ≡ sum_f l.j (λ j. mul binary64 (get_or l.s (l.from + j) nan) (get_or l.s (l.from + j) nan)) zero_f)
+abbrev pub invariant-loop-x : goal.invariant-loop-x
+invariant-loop-x l = l.sum ≡ sum_f l.x-index (λ j. mul binary64 (get_or l.s (l.from + j) nan) (get_or l.s (l.from + j) nan)) zero_f
