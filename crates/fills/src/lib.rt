@@ -1,4 +1,4 @@
-// The ways to write a site's slot: from the factors of a cut, and from those of a QR step. What is left of the slot becomes +0.
+// The ways to write a site's slot: from any matrix, from the factors of a cut, and from those of a QR step. What is left of the slot becomes +0.
 #![tactic(auto)]
 
 ghost use Rattle.std.specs.Prelude.{ℕ, ◌≡◌, ◌+◌, ◌*◌, ◌<◌, ◌≤◌, length};
@@ -52,9 +52,9 @@ impl<'a> Columns<'a> {
     }
 }
 
-// ---- any site
+// ---- any matrix
 
-// Row r of a matrix: its numbers in order.
+// One row: its numbers in order.
 fn fill_row<F: Fn(usize, usize) -> Complex>(out: &mut [f64], number: &F, r: usize, wide: usize)
     requires { (length out.old ≡ 2 * wide) × ((c : ℕ) → c < wide → F.pre number.now r c) }
     ensures { (f : ℕ → _) → ((c : ℕ) (z : _) → c < wide → F.post number.now r c z → z ≡ f c) → out.new ≡ numbers wide f }
@@ -64,8 +64,8 @@ fn fill_row<F: Fn(usize, usize) -> Complex>(out: &mut [f64], number: &F, r: usiz
     }
 }
 
-// The rows of a matrix, one after the other.
-fn fill_rows<F: Fn(usize, usize) -> Complex>(slot: &mut [f64], high: usize, wide: usize, number: F)
+// The rows of a matrix, one after the other: number c of row r is number(r, c).
+pub fn fill_rows<F: Fn(usize, usize) -> Complex>(slot: &mut [f64], high: usize, wide: usize, number: F)
     requires { (high ≤ 256) × (wide ≤ 256) × (2 * (high * wide) ≤ length slot.old) × ((r c : ℕ) → r < high → c < wide → F.pre number r c) }
     ensures { (f : ℕ → ℕ → _) → ((r c : ℕ) (z : _) → r < high → c < wide → F.post number r c z → z ≡ f r c) → slot.new ≡ filled (length slot.old) (rows high (λ r. numbers wide (f r))) }
 {
