@@ -21,7 +21,7 @@ fn row_at(o: bool, br: usize) -> usize
     ensures value { result ≡ bit_of o * br }
     ensures upper_bound { result ≤ br }
 {
-    if o { br } else { 0 }
+    usize::from(o) * br
 }
 
 // The Born weight of outcome o, not divided by the total of both: each left index is summed first.
@@ -52,7 +52,7 @@ fn keep_number(pair: &mut [f64], f: usize, t: usize, u: usize, by: Complex)
     ensures { pair.new ≡ store (store pair.old u zero_c) t (mul_c (at pair.old f) by) }
 {
     let z = complex_at(pair, f) * by;
-    set_complex(pair, u, Complex { re: 0.0, im: 0.0 });
+    set_complex(pair, u, Complex::ZERO);
     set_complex(pair, t, z);
 }
 
@@ -90,10 +90,7 @@ fn keep(slot: &mut [f64], bl: usize, br: usize, from: bool, to: bool, w: f64)
     requires bl_bound { (bl ≤ 128) × (br ≤ 128) }
     ensures { slot.new ≡ filled (length slot.old) (kept_site bl br from to (rescale w) slot.old) }
 {
-    let by = Complex {
-        re: 1.0 / root(w),
-        im: 0.0,
-    };
+    let by = Complex::from(1.0 / root(w));
     keep_rows(slot, bl, br, from, to, by);
     clear_from(slot, bl * (4 * br));
 }

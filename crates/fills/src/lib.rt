@@ -1,15 +1,15 @@
-// The ways to write a site's slot: from the factors of a cut, and from those of a QR step. What is left of the slot becomes +0.
-// Column g of a factor f stands in w from number f.base + order[g] * f.stride on, and its value is number vals + order[g].
+// The ways to write a site's slot: from any matrix, from the factors of a cut, and from those of a QR step. What is left of the slot becomes +0.
 #![tactic(auto)]
 
-ghost use Rattle.std.specs.Prelude.{◌≡◌, ◌+◌, ◌*◌, ◌<◌, ◌≤◌, length};
-ghost use Rattle.complex.specs.Complex.{scale_c, mul_c, conj_c, real};
+ghost use Rattle.std.specs.Prelude.{ℕ, ◌≡◌, ◌+◌, ◌*◌, ◌<◌, ◌≤◌, length};
+ghost use Rattle.complex.specs.Complex.{conj_c};
 ghost use Rattle.complex.specs.Numbers.{count, at, numbers};
+ghost use Rattle.complex.specs.Matrix.{rows};
 ghost use Rattle.model.specs.Slots.{filled};
 ghost use Rattle.model.specs.Pair.{isometry_site, scaled_site, vt_site, scaled_vt_site};
 ghost use Rattle.fills.specs.Factors.{ColumnsIn, ValuesIn, column_of, row_of, value_of};
 
-use columns::{clear_from, conj_row, gather, wide};
+use columns::clear_from;
 use complex::{Complex, complex_at, set_complex};
 
 // Where a factor of a decomposition stands among its numbers: its first number, and how many a column has.
@@ -19,85 +19,86 @@ pub struct Factor {
     pub stride: usize,
 }
 
-// ---- the left site: row r has an element of each column
+// The columns of a factor that are kept, in the order of the values: column g is the factor's column order[g].
+#[derive(Clone, Copy)]
+pub struct Columns<'a> {
+    pub numbers: &'a [f64],
+    pub order: &'a [u8],
+    pub factor: Factor,
+    pub kept: usize,
+    pub ghost few: { (kept ≤ 256) × (kept ≤ length order.now) },
+    pub ghost within: { ColumnsIn numbers.now order.now factor kept },
+}
 
-fn isometry_row(out: &mut [f64], w: &[f64], order: &[u8], f: Factor, r: usize, chi: usize)
-    requires { (length out.old ≡ 2 * chi) × (chi ≤ length order.now) × (r < f.stride) × ColumnsIn w.now order.now f chi }
-    ensures { out.new ≡ numbers chi (λ g. column_of w.now order.now f r g) }
-{
-    let base = f.base;
-    let stride = f.stride;
-    for g in 0..chi {
-        let column = wide(order[g]);
-        set_complex(out, g, complex_at(w, base + (column * stride + r)));
+impl<'a> Columns<'a> {
+    // Number r of column g.
+    fn number(self, r: usize, g: usize) -> Complex
+        requires { (g < self.kept) × (r < self.factor.stride) }
+        ensures { result ≡ column_of self.entry.numbers.now self.entry.order.now self.entry.factor r g }
+    {
+        let column = usize::from(self.order[g]);
+        complex_at(
+            self.numbers,
+            self.factor.base + (column * self.factor.stride + r),
+        )
+    }
+
+    // The value of column g, where the values begin at number `values`.
+    fn value(self, values: usize, g: usize) -> f64
+        requires { (g < self.kept) × ValuesIn self.numbers.now self.order.now values self.kept }
+        ensures { result ≡ value_of self.entry.numbers.now self.entry.order.now values g }
+    {
+        complex_at(self.numbers, values + usize::from(self.order[g])).re
     }
 }
 
-// The columns as they are.
-pub fn fill_isometry_site_data(
-    slot: &mut [f64],
-    w: &[f64],
-    order: &[u8],
-    f: Factor,
-    bl: usize,
-    chi: usize,
-)
-    requires { (bl ≤ 128) × (chi ≤ 256) × (2 * (2 * bl * chi) ≤ length slot.old) × (chi ≤ length order.now) × (2 * bl ≤ f.stride) × ColumnsIn w.now order.now f chi }
-    ensures { slot.new ≡ filled (length slot.old) (isometry_site bl chi (column_of w.now order.now f)) }
+// ---- any matrix
+
+// One row: its numbers in order.
+fn fill_row<F: Fn(usize, usize) -> Complex>(out: &mut [f64], number: &F, r: usize, wide: usize)
+    requires { (length out.old ≡ 2 * wide) × ((c : ℕ) → c < wide → F.pre number.now r c) }
+    ensures { (f : ℕ → _) → ((c : ℕ) (z : _) → c < wide → F.post number.now r c z → z ≡ f c) → out.new ≡ numbers wide f }
 {
-    let high = 2 * bl;
-    let size = 2 * chi;
+    for c in 0..wide {
+        set_complex(out, c, number(r, c));
+    }
+}
+
+// The rows of a matrix, one after the other: number c of row r is number(r, c).
+pub fn fill_rows<F: Fn(usize, usize) -> Complex>(slot: &mut [f64], high: usize, wide: usize, number: F)
+    requires { (high ≤ 256) × (wide ≤ 256) × (2 * (high * wide) ≤ length slot.old) × ((r c : ℕ) → r < high → c < wide → F.pre number r c) }
+    ensures { (f : ℕ → ℕ → _) → ((r c : ℕ) (z : _) → r < high → c < wide → F.post number r c z → z ≡ f r c) → slot.new ≡ filled (length slot.old) (rows high (λ r. numbers wide (f r))) }
+{
+    let size = 2 * wide;
     for r in 0..high {
         let a = r * size;
         let e = a + size;
-        isometry_row(&mut slot[a..e], w, order, f, r, chi);
+        fill_row(&mut slot[a..e], &number, r, wide);
     }
     clear_from(slot, high * size);
 }
 
-fn scaled_row(
-    out: &mut [f64],
-    w: &[f64],
-    order: &[u8],
-    f: Factor,
-    vals: usize,
-    r: usize,
-    chi: usize,
-)
-    requires { (length out.old ≡ 2 * chi) × (chi ≤ length order.now) × (r < f.stride) × ColumnsIn w.now order.now f chi × ValuesIn w.now order.now vals chi }
-    ensures { out.new ≡ numbers chi (λ g. scale_c (column_of w.now order.now f r g) (value_of w.now order.now vals g)) }
+// ---- the left site: row r has an element of each column
+
+// The columns as they are.
+pub fn fill_isometry_site_data(slot: &mut [f64], u: Columns, bl: usize)
+    requires { (bl ≤ 128) × (2 * (2 * bl * u.kept) ≤ length slot.old) × (2 * bl ≤ u.factor.stride) }
+    ensures { slot.new ≡ filled (length slot.old) (isometry_site bl u.entry.kept (column_of u.entry.numbers.now u.entry.order.now u.entry.factor)) }
 {
-    let base = f.base;
-    let stride = f.stride;
-    for g in 0..chi {
-        let column = wide(order[g]);
-        let x = complex_at(w, base + (column * stride + r));
-        let s = complex_at(w, vals + column);
-        set_complex(out, g, x.scale(s.re));
-    }
+    fill_rows(slot, 2 * bl, u.kept, |r, g| u.number(r, g));
 }
 
 // The columns, each times its value.
-pub fn fill_scaled_u_site_data(
-    slot: &mut [f64],
-    w: &[f64],
-    order: &[u8],
-    f: Factor,
-    vals: usize,
-    bl: usize,
-    chi: usize,
-)
-    requires { (bl ≤ 128) × (chi ≤ 256) × (2 * (2 * bl * chi) ≤ length slot.old) × (chi ≤ length order.now) × (2 * bl ≤ f.stride) × ColumnsIn w.now order.now f chi × ValuesIn w.now order.now vals chi }
-    ensures { slot.new ≡ filled (length slot.old) (scaled_site bl chi (column_of w.now order.now f) (value_of w.now order.now vals)) }
+pub fn fill_scaled_u_site_data(slot: &mut [f64], u: Columns, values: usize, bl: usize)
+    requires { (bl ≤ 128) × (2 * (2 * bl * u.kept) ≤ length slot.old) × (2 * bl ≤ u.factor.stride) × ValuesIn u.numbers.now u.order.now values u.kept }
+    ensures { slot.new ≡ filled (length slot.old) (scaled_site bl u.entry.kept (column_of u.entry.numbers.now u.entry.order.now u.entry.factor) (value_of u.entry.numbers.now u.entry.order.now values)) }
 {
-    let high = 2 * bl;
-    let size = 2 * chi;
-    for r in 0..high {
-        let a = r * size;
-        let e = a + size;
-        scaled_row(&mut slot[a..e], w, order, f, vals, r, chi);
-    }
-    clear_from(slot, high * size);
+    fill_rows(
+        slot,
+        2 * bl,
+        u.kept,
+        |r, g| u.number(r, g).scale(u.value(values, g)),
+    );
 }
 
 // The first chi columns of w, a matrix of `stride` rows, in their own order.
@@ -105,80 +106,30 @@ pub fn fill_columns(slot: &mut [f64], w: &[f64], stride: usize, bl: usize, chi: 
     requires { (bl ≤ 128) × (chi ≤ 256) × (2 * (2 * bl * chi) ≤ length slot.old) × (2 * bl ≤ stride) × (chi * stride ≤ count w.now) }
     ensures { slot.new ≡ filled (length slot.old) (isometry_site bl chi (λ r g. at w.now (g * stride + r))) }
 {
-    let high = 2 * bl;
-    let size = 2 * chi;
-    for r in 0..high {
-        let a = r * size;
-        let e = a + size;
-        gather(&mut slot[a..e], w, stride, r, chi);
-    }
-    clear_from(slot, high * size);
+    fill_rows(slot, 2 * bl, chi, |r, g| complex_at(w, g * stride + r));
 }
 
 // ---- the right site: row g is a column's conjugate
 
 // The rows of V† as they are.
-pub fn fill_vt_site_data(
-    slot: &mut [f64],
-    w: &[f64],
-    order: &[u8],
-    f: Factor,
-    chi: usize,
-    br: usize,
-)
-    requires { (chi ≤ 256) × (br ≤ 128) × (2 * (chi * (2 * br)) ≤ length slot.old) × (chi ≤ length order.now) × (2 * br ≤ f.stride) × ColumnsIn w.now order.now f chi }
-    ensures { slot.new ≡ filled (length slot.old) (vt_site chi br (row_of w.now order.now f)) }
+pub fn fill_vt_site_data(slot: &mut [f64], v: Columns, br: usize)
+    requires { (br ≤ 128) × (2 * (v.kept * (2 * br)) ≤ length slot.old) × (2 * br ≤ v.factor.stride) }
+    ensures { slot.new ≡ filled (length slot.old) (vt_site v.entry.kept br (row_of v.entry.numbers.now v.entry.order.now v.entry.factor)) }
 {
-    let base = f.base;
-    let stride = f.stride;
-    let n = 2 * br;
-    let size = 2 * n;
-    for g in 0..chi {
-        let a = g * size;
-        let e = a + size;
-        let column = wide(order[g]);
-        conj_row(&mut slot[a..e], w, base, column * stride, n);
-    }
-    clear_from(slot, chi * size);
+    fill_rows(slot, v.kept, 2 * br, |g, c| v.number(c, g).conj());
 }
 
-// The full product of (s, +0) with the conjugates.
-fn scaled_conj_row(out: &mut [f64], w: &[f64], base: usize, start: usize, s: f64, n: usize)
-    requires { (length out.old ≡ 2 * n) × (base + (start + n) ≤ count w.now) }
-    ensures { out.new ≡ numbers n (λ c. mul_c (real s) (conj_c (at w.now (base + (start + c))))) }
+// The rows of V†, each times its value: the full product of (s, +0) with the conjugates.
+pub fn fill_scaled_vt_data(slot: &mut [f64], v: Columns, values: usize, br: usize)
+    requires { (br ≤ 128) × (2 * (v.kept * (2 * br)) ≤ length slot.old) × (2 * br ≤ v.factor.stride) × ValuesIn v.numbers.now v.order.now values v.kept }
+    ensures { slot.new ≡ filled (length slot.old) (scaled_vt_site v.entry.kept br (row_of v.entry.numbers.now v.entry.order.now v.entry.factor) (value_of v.entry.numbers.now v.entry.order.now values)) }
 {
-    let factor = Complex { re: s, im: 0.0 };
-    for c in 0..n {
-        let x = complex_at(w, base + (start + c));
-        set_complex(out, c, factor * x.conj());
-    }
-}
-
-// The rows of V†, each times its value.
-pub fn fill_scaled_vt_data(
-    slot: &mut [f64],
-    w: &[f64],
-    order: &[u8],
-    f: Factor,
-    vals: usize,
-    chi: usize,
-    br: usize,
-)
-    requires { (chi ≤ 256) × (br ≤ 128) × (2 * (chi * (2 * br)) ≤ length slot.old) × (chi ≤ length order.now) × (2 * br ≤ f.stride) × ColumnsIn w.now order.now f chi × ValuesIn w.now order.now vals chi }
-    ensures { slot.new ≡ filled (length slot.old) (scaled_vt_site chi br (row_of w.now order.now f) (value_of w.now order.now vals)) }
-{
-    let base = f.base;
-    let stride = f.stride;
-    let n = 2 * br;
-    let size = 2 * n;
-    for g in 0..chi {
-        let a = g * size;
-        let e = a + size;
-        let column = wide(order[g]);
-        let s = complex_at(w, vals + column);
-        scaled_conj_row(&mut slot[a..e], w, base, column * stride, s.re, n);
-    }
-    clear_from(slot, chi * size);
+    fill_rows(
+        slot,
+        v.kept,
+        2 * br,
+        |g, c| Complex::from(v.value(values, g)) * v.number(c, g).conj(),
+    );
 }
 
 // The conjugates of the first chi columns of w, a matrix of `stride` rows, in their own order.
@@ -186,12 +137,10 @@ pub fn fill_rows_conj(slot: &mut [f64], w: &[f64], stride: usize, chi: usize, br
     requires { (chi ≤ 256) × (br ≤ 128) × (2 * (chi * (2 * br)) ≤ length slot.old) × (2 * br ≤ stride) × (chi * stride ≤ count w.now) }
     ensures { slot.new ≡ filled (length slot.old) (vt_site chi br (λ g c. conj_c (at w.now (g * stride + c)))) }
 {
-    let n = 2 * br;
-    let size = 2 * n;
-    for g in 0..chi {
-        let a = g * size;
-        let e = a + size;
-        conj_row(&mut slot[a..e], w, 0, g * stride, n);
-    }
-    clear_from(slot, chi * size);
+    fill_rows(
+        slot,
+        chi,
+        2 * br,
+        |g, c| complex_at(w, g * stride + c).conj(),
+    );
 }

@@ -1,6 +1,7 @@
 -- Blocks stored at places that differ leave each element at its place. No contract cites this file. Assumes nothing.
 use mathlib.Core.Path.{◌≡◌, sym, ◌∙◌}
 use mathlib.Core.List.{List}
+use Rattle.std.specs.Prelude.{Bool, true, false, cond}
 use Prim.Native.Nat.{ℕ, ◌+◌, ◌*◌, ◌/◌, ◌%◌, ◌≤◌, ◌<◌}
 use native.Mathlib.Nat.{mul-le-mul}
 use native.Mathlib.Omega.{arith}
@@ -12,7 +13,7 @@ use Rattle.complex.specs.Numbers.{count, at, store, numbers, length_numbers, at_
 use Rattle.complex.specs.Matrix.{rows, cell_below, cell_row, cell_column, by_cells, length_rows, at_rows}
 use Rattle.complex.specs.declared.Complex.{Complex}
 use Rattle.model.specs.Pair.{matrix_of, adjoint_of}
-use Rattle.pair.specs.Blocks.{block_of, conjugated, stored, straight_place, adjoint_place, adjoint, block, line, lines}
+use Rattle.pair.specs.Blocks.{block_of, conjugated, stored, straight_place, adjoint_place, adjoint, place_of, element_of, block, line, lines}
 
 -- an element (a, i, j, b) of a pair of outer bonds bl and br
 record Element (bl br a i j b : ℕ) : Type 0 where
@@ -212,3 +213,10 @@ module _ (bl br : ℕ) (f : ℕ → ℕ → ℕ → ℕ → Complex) where
 
       by_column : (c r : ℕ) → c < 2 * bl → r < 2 * br → Same (c * (2 * br) + r)
       by_column c r hc hr = by_cells bl 2 (λ c. Same (c * (2 * br) + r)) (λ a i ha hi. by_row a i r ha hi hr) c (omega arith)
+
+-- ---- either of the two
+
+module _ (bl br : ℕ) (f : ℕ → ℕ → ℕ → ℕ → Complex) where
+  pub lines_either : (adj : Bool) (xs : List Float) → length xs ≡ 2 * (2 * br * (2 * bl)) → lines bl br (place_of adj bl br) (element_of adj f) xs ≡ cond adj (adjoint_of bl br f) (matrix_of bl br f)
+  lines_either true = lines_adjoint bl br f
+  lines_either false = lines_straight bl br f

@@ -1,5 +1,5 @@
 -- Blocks: the four elements (i, j) of one left index a and one right index b, how they are summed and mixed, and where they are stored.
-use Rattle.std.specs.Prelude.{ℕ, ◌+◌, ◌*◌, ◌/◌, ◌%◌, List, [], get_or, Float}
+use Rattle.std.specs.Prelude.{ℕ, ◌+◌, ◌*◌, ◌/◌, ◌%◌, Bool, cond, List, [], get_or, Float}
 use Rattle.complex.specs.Complex.{add_c, mul_c, conj_c, zero_c}
 use Rattle.complex.specs.Loops.{each, sum_c}
 use Rattle.complex.specs.Numbers.{at, store, stores}
@@ -64,6 +64,13 @@ adjoint_place br a i j b = (a * 2 + i) * (2 * br) + (j * br + b)
 
 abbrev pub adjoint : (ℕ → ℕ → ℕ → ℕ → Complex) → ℕ → ℕ → ℕ → ℕ → Complex
 adjoint f a i j b = conj_c (f a i j b)
+
+-- the places and the elements of the conjugate transpose, or of the matrix
+abbrev pub place_of : Bool → ℕ → ℕ → ℕ → ℕ → ℕ → ℕ → ℕ
+place_of adj bl br = cond adj (adjoint_place br) (straight_place bl br)
+
+abbrev pub element_of : Bool → (ℕ → ℕ → ℕ → ℕ → Complex) → ℕ → ℕ → ℕ → ℕ → Complex
+element_of adj f = cond adj (adjoint f) f
 
 -- f's elements at their places: those of one a and one b, of one b, and all
 unfoldable pub block : (ℕ → ℕ → ℕ → ℕ → ℕ) → (ℕ → ℕ → ℕ → ℕ → Complex) → ℕ → ℕ → List Float → List Float

@@ -2,11 +2,10 @@
 // The four elements of one left index a and one right index b meet in no other four of the result, so they are made and stored together.
 #![tactic(auto)]
 
-ghost use Rattle.std.specs.Prelude.{◌≡◌, ◌+◌, ◌*◌, ◌<◌, ◌≤◌, length};
-ghost use Rattle.complex.specs.Complex.{add_c, mul_c};
+ghost use Rattle.std.specs.Prelude.{◌≡◌, ◌+◌, ◌*◌, ◌<◌, ◌≤◌, cond, length};
 ghost use Rattle.complex.specs.Numbers.{count};
 ghost use Rattle.model.specs.Pair.{gated_theta, matrix_of, adjoint_of};
-ghost use Rattle.pair.specs.Blocks.{grown, dots_of, mix_of, mixed_of, conjugated, gated_block, stored, line, straight_place, adjoint_place, adjoint};
+ghost use Rattle.pair.specs.Blocks.{grown, dots_of, mix_of, mixed_of, conjugated, gated_block, stored, line, place_of, element_of};
 
 use complex::{Complex, complex_at, set_complex};
 
@@ -27,22 +26,70 @@ pub struct Block {
     pub e11: Complex,
 }
 
-fn add_product(acc: Complex, x: Complex, y: Complex) -> Complex
-    ensures { result ≡ add_c acc (mul_c x y) }
+// A row of the gate times the four elements, added in their order.
+#[tactic(auto, unfolding(crate::specs::Blocks::mix_of))]
+fn mix(row: [Complex; 4], t: Block) -> Complex
+    ensures { result ≡ mix_of row t }
 {
-    acc + x * y
+    Complex::ZERO + row[0] * t.e00 + row[1] * t.e01 + row[2] * t.e10 + row[3] * t.e11
 }
 
-// One more term of the four sums.
-#[tactic(auto, unfolding(crate::specs::Blocks::grown))]
-fn grow(t: Block, x0: Complex, x1: Complex, y0: Complex, y1: Complex) -> Block
-    ensures { result ≡ grown t x0 x1 y0 y1 }
-{
-    Block {
-        e00: add_product(t.e00, x0, y0),
-        e01: add_product(t.e01, x0, y1),
-        e10: add_product(t.e10, x1, y0),
-        e11: add_product(t.e11, x1, y1),
+impl Block {
+    pub const ZERO: Block = Block {
+        e00: Complex::ZERO,
+        e01: Complex::ZERO,
+        e10: Complex::ZERO,
+        e11: Complex::ZERO,
+    };
+
+    // One more term of the four sums.
+    #[tactic(auto, unfolding(crate::specs::Blocks::grown))]
+    fn grown(self, x0: Complex, x1: Complex, y0: Complex, y1: Complex) -> Block
+        ensures { result ≡ grown self x0 x1 y0 y1 }
+    {
+        Block {
+            e00: self.e00 + x0 * y0,
+            e01: self.e01 + x0 * y1,
+            e10: self.e10 + x1 * y0,
+            e11: self.e11 + x1 * y1,
+        }
+    }
+
+    // The gate on the four elements.
+    #[tactic(auto, unfolding(crate::specs::Blocks::mixed_of))]
+    fn gated(self, gate: &[[Complex; 4]; 4]) -> Block
+        ensures { result ≡ mixed_of gate.now self }
+    {
+        Block {
+            e00: mix(gate[0], self),
+            e01: mix(gate[1], self),
+            e10: mix(gate[2], self),
+            e11: mix(gate[3], self),
+        }
+    }
+
+    #[tactic(auto, unfolding(crate::specs::Blocks::conjugated))]
+    fn conj(self) -> Block
+        ensures { result ≡ conjugated self }
+    {
+        Block {
+            e00: self.e00.conj(),
+            e01: self.e01.conj(),
+            e10: self.e10.conj(),
+            e11: self.e11.conj(),
+        }
+    }
+
+    // The four elements at their places: i steps by si from base on, and j by sj.
+    #[tactic(auto, unfolding(crate::specs::Blocks::stored))]
+    fn store(self, out: &mut [f64], base: usize, si: usize, sj: usize)
+        requires { base + si + sj < count out.old }
+        ensures { out.new ≡ stored base si sj self out.old }
+    {
+        set_complex(out, base, self.e00);
+        set_complex(out, base + sj, self.e01);
+        set_complex(out, base + si, self.e10);
+        set_complex(out, base + si + sj, self.e11);
     }
 }
 
@@ -60,157 +107,65 @@ fn dots(
     ensures { result ≡ dots_of left.now l0 (l0 + n) right.now step r0 r1 n }
 {
     let l1 = l0 + n;
-    let zero = Complex { re: 0.0, im: 0.0 };
-    let mut t = Block {
-        e00: zero,
-        e01: zero,
-        e10: zero,
-        e11: zero,
-    };
+    let mut t = Block::ZERO;
     for g in 0..n {
         let x0 = complex_at(left, l0 + g);
         let x1 = complex_at(left, l1 + g);
         let y0 = complex_at(right, g * step + r0);
         let y1 = complex_at(right, g * step + r1);
-        t = grow(t, x0, x1, y0, y1);
+        t = t.grown(x0, x1, y0, y1);
     }
     t
 }
 
-// A row of the gate times the four elements, added in their order.
-#[tactic(auto, unfolding(crate::specs::Blocks::mix_of))]
-fn mix(row: [Complex; 4], t: Block) -> Complex
-    ensures { result ≡ mix_of row t }
-{
-    let zero = Complex { re: 0.0, im: 0.0 };
-    let first = add_product(add_product(zero, row[0], t.e00), row[1], t.e01);
-    add_product(add_product(first, row[2], t.e10), row[3], t.e11)
+// Two neighbouring sites with their bonds, and the gate on them.
+#[derive(Clone, Copy)]
+pub struct Neighbours<'a> {
+    pub left: &'a [f64],
+    pub right: &'a [f64],
+    pub gate: [[Complex; 4]; 4],
+    pub bonds: Bonds,
+    pub ghost few: { (bonds.left ≤ 128) × (bonds.mid ≤ 128) × (bonds.right ≤ 128) },
+    pub ghost within: { (bonds.left * (2 * bonds.mid) ≤ count left.now) × (bonds.mid * (2 * bonds.right) ≤ count right.now) },
 }
 
-// The gate on the four elements.
-#[tactic(auto, unfolding(crate::specs::Blocks::mixed_of))]
-fn gate_block(gate: [[Complex; 4]; 4], t: Block) -> Block
-    ensures { result ≡ mixed_of gate t }
-{
-    Block {
-        e00: mix(gate[0], t),
-        e01: mix(gate[1], t),
-        e10: mix(gate[2], t),
-        e11: mix(gate[3], t),
+impl<'a> Neighbours<'a> {
+    // The four elements of a and b, with the gate on them.
+    fn block(&self, a: usize, b: usize) -> Block
+        requires { (a < self.now.bonds.left) × (b < self.now.bonds.right) }
+        ensures { result ≡ gated_block self.now.gate self.now.bonds.mid self.now.bonds.right self.now.left.now self.now.right.now a b }
+    {
+        let mid = self.bonds.mid;
+        let br = self.bonds.right;
+        let l0 = a * (2 * mid);
+        dots(self.left, l0, self.right, 2 * br, b, br + b, mid).gated(&self.gate)
     }
-}
 
-#[tactic(auto, unfolding(crate::specs::Blocks::conjugated))]
-fn conj_block(t: Block) -> Block
-    ensures { result ≡ conjugated t }
-{
-    Block {
-        e00: t.e00.conj(),
-        e01: t.e01.conj(),
-        e10: t.e10.conj(),
-        e11: t.e11.conj(),
+    // The elements of one b, by columns: row a * 2 + i and column j * br + b, or the conjugates with row and column exchanged.
+    fn contract_line<const ADJOINT: bool>(&self, out: &mut [f64], b: usize)
+        requires { (b < self.now.bonds.right) × (length out.old ≡ 2 * (2 * self.now.bonds.right * (2 * self.now.bonds.left))) }
+        ensures { out.new ≡ line self.now.bonds.left (place_of ADJOINT self.now.bonds.left self.now.bonds.right) (element_of ADJOINT (gated_theta self.now.gate self.now.bonds.mid self.now.bonds.right self.now.left.now self.now.right.now)) b out.old }
+    {
+        let bl = self.bonds.left;
+        let br = self.bonds.right;
+        for a in 0..bl {
+            let t = self.block(a, b);
+            if ADJOINT {
+                t.conj().store(out, a * 2 * (2 * br) + b, 2 * br, br);
+            } else {
+                t.store(out, b * (2 * bl) + a * 2, 1, br * (2 * bl));
+            }
+        }
     }
-}
 
-// The four elements of a and b, with the gate on them.
-fn contract_block(
-    left: &[f64],
-    right: &[f64],
-    gate: [[Complex; 4]; 4],
-    bonds: Bonds,
-    a: usize,
-    b: usize,
-) -> Block
-    requires mid_bound { (bonds.mid ≤ 128) × (bonds.right ≤ 128) × (a < 128) × (b < bonds.right) }
-    requires mid_bound_2 { (a * (2 * bonds.mid) + 2 * bonds.mid ≤ count left.now) × (bonds.mid * (2 * bonds.right) ≤ count right.now) }
-    ensures { result ≡ gated_block gate bonds.mid bonds.right left.now right.now a b }
-{
-    let mid = bonds.mid;
-    let br = bonds.right;
-    let l0 = a * (2 * mid);
-    let t = dots(left, l0, right, 2 * br, b, br + b, mid);
-    gate_block(gate, t)
-}
-
-// The four elements at their places: i steps by si from base on, and j by sj.
-#[tactic(auto, unfolding(crate::specs::Blocks::stored))]
-fn store_block(out: &mut [f64], base: usize, si: usize, sj: usize, t: Block)
-    requires { base + si + sj < count out.old }
-    ensures { out.new ≡ stored base si sj t out.old }
-{
-    set_complex(out, base, t.e00);
-    set_complex(out, base + sj, t.e01);
-    set_complex(out, base + si, t.e10);
-    set_complex(out, base + si + sj, t.e11);
-}
-
-// The elements of one b: row a * 2 + i and column j * br + b, by columns.
-fn contract_line(
-    left: &[f64],
-    right: &[f64],
-    gate: [[Complex; 4]; 4],
-    out: &mut [f64],
-    bonds: Bonds,
-    b: usize,
-)
-    requires left_bound { (bonds.left ≤ 128) × (bonds.mid ≤ 128) × (bonds.right ≤ 128) × (b < bonds.right) }
-    requires mid_bound { (bonds.left * (2 * bonds.mid) ≤ count left.now) × (bonds.mid * (2 * bonds.right) ≤ count right.now) × (length out.old ≡ 2 * (2 * bonds.right * (2 * bonds.left))) }
-    ensures { out.new ≡ line bonds.left (straight_place bonds.left bonds.right) (gated_theta gate bonds.mid bonds.right left.now right.now) b out.old }
-{
-    let bl = bonds.left;
-    let br = bonds.right;
-    for a in 0..bl {
-        let t = contract_block(left, right, gate, bonds, a, b);
-        store_block(out, b * (2 * bl) + a * 2, 1, br * (2 * bl), t);
-    }
-}
-
-// The elements of one b in the conjugate transpose: row j * br + b and column a * 2 + i, by columns.
-fn contract_adjoint_line(
-    left: &[f64],
-    right: &[f64],
-    gate: [[Complex; 4]; 4],
-    out: &mut [f64],
-    bonds: Bonds,
-    b: usize,
-)
-    requires left_bound { (bonds.left ≤ 128) × (bonds.mid ≤ 128) × (bonds.right ≤ 128) × (b < bonds.right) }
-    requires mid_bound { (bonds.left * (2 * bonds.mid) ≤ count left.now) × (bonds.mid * (2 * bonds.right) ≤ count right.now) × (length out.old ≡ 2 * (2 * bonds.right * (2 * bonds.left))) }
-    ensures { out.new ≡ line bonds.left (adjoint_place bonds.right) (adjoint (gated_theta gate bonds.mid bonds.right left.now right.now)) b out.old }
-{
-    let bl = bonds.left;
-    let br = bonds.right;
-    for a in 0..bl {
-        let t = contract_block(left, right, gate, bonds, a, b);
-        let u = conj_block(t);
-        store_block(out, a * 2 * (2 * br) + b, 2 * br, br, u);
-    }
-}
-
-// The gate on the two sites' contraction, as a matrix of 2 * bonds.left rows and 2 * bonds.right columns, by columns.
-pub fn contract(left: &[f64], right: &[f64], gate: [[Complex; 4]; 4], out: &mut [f64], bonds: Bonds)
-    requires left_bound { (bonds.left ≤ 128) × (bonds.mid ≤ 128) × (bonds.right ≤ 128) }
-    requires mid_bound { (bonds.left * (2 * bonds.mid) ≤ count left.now) × (bonds.mid * (2 * bonds.right) ≤ count right.now) × (length out.old ≡ 2 * (2 * bonds.right * (2 * bonds.left))) }
-    ensures { out.new ≡ matrix_of bonds.left bonds.right (gated_theta gate bonds.mid bonds.right left.now right.now) }
-{
-    for b in 0..bonds.right {
-        contract_line(left, right, gate, out, bonds, b);
-    }
-}
-
-// The conjugate transpose of that matrix, of 2 * bonds.right rows and 2 * bonds.left columns, by columns. The conjugate is taken after the gate.
-pub fn contract_adjoint(
-    left: &[f64],
-    right: &[f64],
-    gate: [[Complex; 4]; 4],
-    out: &mut [f64],
-    bonds: Bonds,
-)
-    requires left_bound { (bonds.left ≤ 128) × (bonds.mid ≤ 128) × (bonds.right ≤ 128) }
-    requires mid_bound { (bonds.left * (2 * bonds.mid) ≤ count left.now) × (bonds.mid * (2 * bonds.right) ≤ count right.now) × (length out.old ≡ 2 * (2 * bonds.right * (2 * bonds.left))) }
-    ensures { out.new ≡ adjoint_of bonds.left bonds.right (gated_theta gate bonds.mid bonds.right left.now right.now) }
-{
-    for b in 0..bonds.right {
-        contract_adjoint_line(left, right, gate, out, bonds, b);
+    // The gate on the two sites' contraction, as a matrix of 2 * bonds.left rows and 2 * bonds.right columns, by columns.
+    // ADJOINT: its conjugate transpose, by columns. The conjugate is taken after the gate.
+    pub fn contract<const ADJOINT: bool>(&self, out: &mut [f64])
+        requires { length out.old ≡ 2 * (2 * self.now.bonds.right * (2 * self.now.bonds.left)) }
+        ensures { let th = gated_theta self.now.gate self.now.bonds.mid self.now.bonds.right self.now.left.now self.now.right.now in out.new ≡ cond ADJOINT (adjoint_of self.now.bonds.left self.now.bonds.right th) (matrix_of self.now.bonds.left self.now.bonds.right th) }
+    {
+        for b in 0..self.bonds.right {
+            self.contract_line::<ADJOINT>(out, b);
+        }
     }
 }

@@ -17,9 +17,9 @@ fn diagonal(r: usize, c: usize) -> Complex
     ensures { result ≡ cond (eqb r c) (real one_f) zero_c }
 {
     if r == c {
-        Complex { re: 1.0, im: 0.0 }
+        Complex::from(1.0)
     } else {
-        Complex { re: 0.0, im: 0.0 }
+        Complex::ZERO
     }
 }
 
@@ -110,7 +110,7 @@ fn left_few(env: &[f64], site: &[f64], bl: usize, br: usize, g: usize, g1: usize
     ensures { result ≡ few_left bl br site.now env.now g g1 }
 {
     let n = bl * bl;
-    let mut acc = Complex { re: 0.0, im: 0.0 };
+    let mut acc = Complex::ZERO;
     for k in 0..n {
         acc = left_cell(site, br, k / bl, k % bl, g, g1, complex_at(env, k), acc);
     }
@@ -122,7 +122,7 @@ fn left_inner(env: &[f64], site: &[f64], bl: usize, br: usize, a1: usize, c: usi
     requires { (bl ≤ 128) × (br ≤ 128) × (a1 < bl) × (c < 2 * br) × (bl * bl ≤ count env.now) × (bl * (2 * br) ≤ count site.now) }
     ensures { result ≡ inner_left bl br site.now env.now a1 c }
 {
-    let mut acc = Complex { re: 0.0, im: 0.0 };
+    let mut acc = Complex::ZERO;
     for a in 0..bl {
         let e = complex_at(env, a * bl + a1);
         acc = plus_unless_zero(e, complex_at(site, a * (2 * br) + c), acc);
@@ -144,7 +144,7 @@ fn left_many(
     ensures { result ≡ many_left bl br mid site.now front.now g g1 }
 {
     let high = bl * 2;
-    let mut acc = Complex { re: 0.0, im: 0.0 };
+    let mut acc = Complex::ZERO;
     for r in 0..high {
         let x = complex_at(front, mid + (r * br + g));
         acc = plus_unless_zero(x, complex_at(site, r * br + g1).conj(), acc);
@@ -266,7 +266,7 @@ fn right_few(env: &[f64], site: &[f64], br: usize, a: usize, a1: usize) -> Compl
     ensures { result ≡ few_right br site.now env.now a a1 }
 {
     let n = br * br;
-    let mut acc = Complex { re: 0.0, im: 0.0 };
+    let mut acc = Complex::ZERO;
     for k in 0..n {
         acc = right_cell(site, br, a, a1, k / br, k % br, complex_at(env, k), acc);
     }
@@ -278,7 +278,7 @@ fn right_inner(env: &[f64], site: &[f64], br: usize, r: usize, b1: usize) -> Com
     requires { (br ≤ 128) × (b1 < br) × (br * br ≤ count env.now) × (r * br + br ≤ count site.now) }
     ensures { result ≡ inner_right br site.now env.now r b1 }
 {
-    let mut acc = Complex { re: 0.0, im: 0.0 };
+    let mut acc = Complex::ZERO;
     for b in 0..br {
         let x = complex_at(site, r * br + b);
         acc = acc + x * complex_at(env, b * br + b1);
@@ -292,7 +292,7 @@ fn right_many(front: &[f64], site: &[f64], br: usize, mid: usize, a: usize, a1: 
     ensures { result ≡ many_right br mid site.now front.now a a1 }
 {
     let wide = 2 * br;
-    let mut acc = Complex { re: 0.0, im: 0.0 };
+    let mut acc = Complex::ZERO;
     for c in 0..wide {
         let x = complex_at(front, mid + (a * wide + c));
         acc = acc + x * complex_at(site, a1 * wide + c).conj();

@@ -1,23 +1,9 @@
-use mathlib.Core.Path.{◌∙◌}
-use Prim.Native.Nat.{◌+◌, ◌*◌}
-use native.Mathlib.Nat.{mul-le-mul_right, le_antisymm, zero-mul, zero-add}
-use native.Mathlib.Omega.{arith}
-use lib.ListN.{length}
+use Rattle.std.proofs.Common.{rules, ◌+◌, ◌*◌}
 use Rattle.complex.specs.Complex.{conj_c}
-use Rattle.complex.specs.Numbers.{at, numbers, length_numbers}
-use Rattle.complex.specs.Matrix.{block_none, block_more}
-use Rattle.model.specs.Slots.{filled}
+use Rattle.complex.specs.Numbers.{at}
 use Rattle.model.specs.Pair.{vt_site}
-use Rattle.columns.specs.Cleared.{rows_cleared}
 use Rattle.fills.proofs.fill_rows_conj.Goals as goal
-
-pub loop-g-init : goal.loop-g-init
-loop-g-init c = (omega arith, omega arith, rw zero-mul (block_none _ _))
-
-pub loop-g-preserved : goal.loop-g-preserved
-loop-g-preserved c = let a = c.args in let x = c.loop-g-test.true in (omega arith, omega (arith, c.conj_row.auto, c.loop-g.invariant.1), rw (c.conj_row.ensures, c.loop-g.invariant.2) (block_more (2 * (2 * a.br)) (λ g. numbers (2 * a.br) (λ c. conj_c (at a.w.now (0 + (g * a.stride + c))))) (λ g. length_numbers (2 * a.br) _) c.loop-g.g a.slot.now (omega (arith, c.requires.2, mul-le-mul_right (2 * (2 * a.br)) x))))
 
 pub returns : goal.returns
 unfolding vt_site
-returns c = let a = c.args in rw (c.clear_from.ensures, c.loop-g.invariant.1, c.loop-g.invariant.2, le_antisymm c.loop-g.invariant.0 c.loop-g-test.false) (rows_cleared a.chi (2 * (2 * a.br)) (λ g. numbers (2 * a.br) (λ c. conj_c (at a.w.now (0 + (g * a.stride + c))))) (λ g. length_numbers (2 * a.br) _) a.slot.now)
-    ∙ (λ i. filled (length a.slot.now) (vt_site a.chi a.br (λ g c. conj_c (at a.w.now (zero-add (g * a.stride + c) i)))))
+returns c = let a = c.args in c.fill_rows.ensures (λ g k. conj_c (at a.w.now (g * a.stride + k))) (λ r k z l m p. search rules)

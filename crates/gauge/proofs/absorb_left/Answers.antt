@@ -1,19 +1,18 @@
--- The first k numbers of the slot are written, and the rest is cleared.
-use mathlib.Core.Path.{◌≡◌, ap, ◌∙◌}
-use mathlib.Core.List.{◌++◌}
-use Prim.Native.Nat.{◌*◌}
+use Prim.Native.Nat.{◌+◌, ◌*◌}
+use native.Mathlib.Nat.{mul-le-mul_right}
 use native.Mathlib.Omega.{arith}
-use lib.ListN.{length, drop, length-append, length-drop}
-use lib.Seq.{length-take-le}
-use Rattle.columns.specs.Cleared.{rest_cleared}
-use Rattle.model.specs.Slots.{filled}
+use Rattle.std.proofs.iter.Serving.{serving}
+use Rattle.std.proofs.Common.{rules}
+use Rattle.complex.specs.Complex.{mul_c, conj_c, zero_c}
+use Rattle.complex.specs.Loops.{sum_c}
+use Rattle.complex.specs.Numbers.{at}
+use Rattle.model.specs.Moves.{absorbed_left}
 use Rattle.gauge.proofs.absorb_left.Goals as goal
 
 pub returns : goal.returns
-returns c = let x = c.args in
-    let slot = x.slot.now in
-    let k = 2 * (2 * x.bl * x.chi) in
-    let xs = c.left_rows.new.out in
-    let n : length xs ≡ k = omega (arith, c.left_rows.auto.out, length-take-le k slot (omega arith)) in
-    let l : length (xs ++ drop k slot) ≡ length slot = simp (length-append, length-drop) (omega arith) in
-    rw (c.clear_from.ensures, l) (rest_cleared k xs slot n) ∙ ap (filled (length slot)) c.left_rows.ensures
+unfolding absorbed_left
+returns c = let a = c.args in
+    c.fill_rows.ensures (λ r g. sum_c a.bond (λ d. mul_c (at a.prev.now (r * a.bond + d)) (conj_c (at a.w.now (a.bond * (2 * a.br) + (g * a.bond + d))))) zero_c) (λ g r z l m p. search rules)
+
+pub fill_rows-requires : goal.fill_rows-requires
+fill_rows-requires c = (omega arith, omega arith, omega arith, λ r g h l. let m = mul-le-mul_right c.args.bond h in let n = mul-le-mul_right c.args.bond l in grind (arith, serving))

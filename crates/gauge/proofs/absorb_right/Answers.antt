@@ -1,19 +1,12 @@
--- The first k numbers of the slot are written, and the rest is cleared.
-use mathlib.Core.Path.{◌≡◌, ap, ◌∙◌}
-use mathlib.Core.List.{◌++◌}
-use Prim.Native.Nat.{◌*◌}
-use native.Mathlib.Omega.{arith}
-use lib.ListN.{length, drop, length-append, length-drop}
-use lib.Seq.{length-take-le}
-use Rattle.columns.specs.Cleared.{rest_cleared}
-use Rattle.model.specs.Slots.{filled}
+use Prim.Native.Nat.{◌+◌, ◌*◌}
+use Rattle.std.proofs.Common.{rules}
+use Rattle.complex.specs.Complex.{mul_c, zero_c}
+use Rattle.complex.specs.Loops.{sum_c}
+use Rattle.complex.specs.Numbers.{at}
+use Rattle.model.specs.Moves.{absorbed_right}
 use Rattle.gauge.proofs.absorb_right.Goals as goal
 
 pub returns : goal.returns
-returns c = let x = c.args in
-    let slot = x.slot.now in
-    let k = 2 * (x.chi * (2 * x.br)) in
-    let xs = c.right_rows.new.out in
-    let n : length xs ≡ k = omega (arith, c.right_rows.auto.out, length-take-le k slot (omega arith)) in
-    let l : length (xs ++ drop k slot) ≡ length slot = simp (length-append, length-drop) (omega arith) in
-    rw (c.clear_from.ensures, l) (rest_cleared k xs slot n) ∙ ap (filled (length slot)) c.right_rows.ensures
+unfolding absorbed_right
+returns c = let a = c.args in
+    c.fill_rows.ensures (λ g k. sum_c a.bond (λ d. mul_c (at a.w.now (a.bond * (2 * a.bl) + (g * a.bond + d))) (at a.next.now (d * (2 * a.br) + k))) zero_c) (λ g r z l m p. search rules)

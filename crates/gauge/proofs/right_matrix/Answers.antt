@@ -1,16 +1,18 @@
-use mathlib.Core.Path.{◌∙◌}
 use Prim.Native.Nat.{◌+◌, ◌*◌}
-use native.Mathlib.Nat.{mul-le-mul_right, le_antisymm, zero-mul}
+use native.Mathlib.Nat.{mul-le-mul_right}
 use native.Mathlib.Omega.{arith}
+use Rattle.std.proofs.iter.Serving.{serving}
+use mathlib.Core.Path.{◌∙◌}
+use Rattle.std.proofs.Common.{rules}
 use Rattle.complex.specs.Numbers.{at, numbers, length_numbers}
-use Rattle.complex.specs.Matrix.{block_none, block_more, block_all}
+use Rattle.complex.specs.Matrix.{length_rows}
+use Rattle.gauge.proofs.Whole.{filled_whole}
 use Rattle.gauge.proofs.right_matrix.Goals as goal
 
-pub loop-g-init : goal.loop-g-init
-loop-g-init c = (omega arith, omega arith, rw zero-mul (block_none _ _))
-
-pub loop-g-preserved : goal.loop-g-preserved
-loop-g-preserved c = (omega arith, omega arith, rw (c.gather.ensures, c.loop-g.invariant.2) (block_more (2 * (2 * c.args.bl)) (λ g. numbers (2 * c.args.bl) (λ r. at c.args.site.now (r * c.args.bond + g))) (λ g. length_numbers (2 * c.args.bl) _) c.loop-g.g c.args.out.now (omega (arith, mul-le-mul_right c.args.bl c.loop-g-test.true))))
-
 pub returns : goal.returns
-returns c = rw (le_antisymm c.loop-g.invariant.0 c.loop-g-test.false) at c.loop-g.invariant.2 ∙ block_all (2 * (2 * c.args.bl)) (λ g. numbers (2 * c.args.bl) (λ r. at c.args.site.now (r * c.args.bond + g))) (λ g. length_numbers (2 * c.args.bl) _) c.args.bond c.args.out.now (omega arith)
+returns c = let a = c.args in
+    c.fill_rows.ensures (λ g r. at a.site.now (r * a.bond + g)) (λ g r z l m p. search rules)
+    ∙ filled_whole _ _ (length_rows (2 * a.bl) (λ g. numbers (2 * a.bl) (λ r. at a.site.now (r * a.bond + g))) (λ g. length_numbers (2 * a.bl) _) a.bond ∙ omega arith)
+
+pub fill_rows-requires : goal.fill_rows-requires
+fill_rows-requires c = (omega arith, omega arith, omega arith, λ g r h l. let m = mul-le-mul_right c.args.bond l in grind (arith, serving))

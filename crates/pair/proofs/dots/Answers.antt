@@ -7,7 +7,7 @@ pub loop-g-init : goal.loop-g-init
 loop-g-init c = (omega arith, rw dots_none)
 
 pub loop-g-preserved : goal.loop-g-preserved
-loop-g-preserved c = (omega arith, rw (dots_more, c.grow-t.ensures, c.complex_at-x0.ensures, c.complex_at-x1.ensures, c.complex_at-y0.ensures, c.complex_at-y1.ensures, c.loop-g.invariant.1))
+loop-g-preserved c = (omega arith, rw (dots_more, c.grown-t.ensures, c.complex_at-x0.ensures, c.complex_at-x1.ensures, c.complex_at-y0.ensures, c.complex_at-y1.ensures, c.loop-g.invariant.1))
 
 pub returns : goal.returns
 returns c = rw (le_antisymm c.loop-g.invariant.0 c.loop-g-test.false) at c.loop-g.invariant.1

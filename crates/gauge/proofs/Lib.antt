@@ -1,0 +1,2 @@
+-- Laws that no contract cites.
+pub mod Whole
