@@ -66,7 +66,6 @@ pub record Stands (s : Shape) (w : List Float) (order : List ℕ) : Type 0 where
 -- r is the decomposition d of a pair of outer bonds bl and br, and w begins with it
 pub record Made (bl br : ℕ) (d : Svd) (w : List Float) (r : Decomposed) : Type 0 where
   pub whole : standing r.shape w r.order ≡ d
-  pub nan : r.nan ≡ nan_in d
   pub shape : r.shape ≡ shape_of bl br
   pub stands : Stands r.shape w r.order
 

@@ -1,23 +1,21 @@
 // What one cut does below the chain record, on slices and numbers: the pair's decomposition at the front of the work slice, what is kept of its values, and the two sites made of its factors.
 #![tactic(auto)]
 
-ghost use Rattle.std.specs.Prelude.{◌≡◌, ◌*◌, ◌≤◌, length};
-ghost use Rattle.complex.specs.Numbers.{count};
+ghost use Rattle.std.specs.Prelude.{◌≡◌, ◌*◌, ◌≤◌, IfSome, is_none, length};
 ghost use Rattle.model.specs.Slots.{filled};
 ghost use Rattle.model.specs.Svd.{values};
 ghost use Rattle.model.specs.Pair.{gated_theta, pair_svd, left_site, right_site};
-ghost use Rattle.cutting.specs.Shape.{shaped, shape_of, room, matrix_for, standing, Stands, Made, left_factor, right_factor};
+ghost use Rattle.cutting.specs.Shape.{shaped, shape_of, room, matrix_for, standing, nan_in, Stands, Made, left_factor, right_factor};
 ghost use Rattle.cutting.specs.Kept.{KeptOf};
 
-use complex::Complex;
 use fills::{
-    Factor, fill_isometry_site_data, fill_scaled_u_site_data, fill_scaled_vt_data,
+    Columns, Factor, fill_isometry_site_data, fill_scaled_u_site_data, fill_scaled_vt_data,
     fill_vt_site_data,
 };
 use model::{Reason, WeightSide};
-use pair::{Bonds, contract, contract_adjoint};
+use pair::{Bonds, Neighbours};
 use svd::{sorted_values, svd_jacobi};
-use truncation::{Share, discarded_share, discards_resolvable_weight, truncated_svd_rank};
+use truncation::{discarded_share, discards_resolvable_weight, truncated_svd_rank};
 
 // ---- the decomposition
 
@@ -56,57 +54,37 @@ fn shape_of(bl: usize, br: usize) -> Shape
 }
 
 // The gate on the two sites' contraction, as the matrix that is decomposed.
-fn contract_pair(
-    adjoint: bool,
-    left: &[f64],
-    right: &[f64],
-    gate: [[Complex; 4]; 4],
-    out: &mut [f64],
-    bonds: Bonds,
-)
-    requires left_bound { (bonds.left ≤ 128) × (bonds.mid ≤ 128) × (bonds.right ≤ 128) }
-    requires mid_bound { (bonds.left * (2 * bonds.mid) ≤ count left.now) × (bonds.mid * (2 * bonds.right) ≤ count right.now) × (length out.old ≡ 2 * (2 * bonds.right * (2 * bonds.left))) }
-    ensures { out.new ≡ matrix_for adjoint bonds.left bonds.right (gated_theta gate bonds.mid bonds.right left.now right.now) }
+fn contract_pair(adjoint: bool, pair: &Neighbours, out: &mut [f64])
+    requires { length out.old ≡ 2 * (2 * pair.now.bonds.right * (2 * pair.now.bonds.left)) }
+    ensures { out.new ≡ matrix_for adjoint pair.now.bonds.left pair.now.bonds.right (gated_theta pair.now.gate pair.now.bonds.mid pair.now.bonds.right pair.now.left.now pair.now.right.now) }
 {
     if adjoint {
-        contract_adjoint(left, right, gate, out, bonds);
+        pair.contract::<true>(out);
     } else {
-        contract(left, right, gate, out, bonds);
+        pair.contract::<false>(out);
     }
 }
 
-// A decomposition at the front of the work slice: its shape, the order of its values, and whether one of them is a NaN.
+// A decomposition at the front of the work slice: its shape, and the order of its values.
 #[derive(Clone, Copy)]
 pub struct Decomposed {
     pub shape: Shape,
     pub order: [u8; 256],
-    pub nan: bool,
 }
 
-// The pair with the gate on it, decomposed.
-pub fn decompose(
-    left: &[f64],
-    right: &[f64],
-    work: &mut [f64],
-    gate: [[Complex; 4]; 4],
-    bonds: Bonds,
-    clamp: f64,
-) -> Decomposed
-    requires le_left { (1 ≤ bonds.left) × (bonds.left ≤ 128) × (bonds.mid ≤ 128) × (1 ≤ bonds.right) × (bonds.right ≤ 128) }
-    requires mid_bound { (bonds.left * (2 * bonds.mid) ≤ count left.now) × (bonds.mid * (2 * bonds.right) ≤ count right.now) × (room (shape_of bonds.left bonds.right) ≤ length work.old) }
-    ensures { Made bonds.left bonds.right (pair_svd clamp bonds.left bonds.mid bonds.right gate left.now right.now) work.new result }
+// The pair with the gate on it, decomposed; nothing where one of its values is a NaN.
+pub fn decompose(pair: &Neighbours, work: &mut [f64], clamp: f64) -> Option<Decomposed>
+    requires le_left { (1 ≤ pair.now.bonds.left) × (1 ≤ pair.now.bonds.right) }
+    requires work_bound { room (shape_of pair.now.bonds.left pair.now.bonds.right) ≤ length work.old }
+    ensures nan { let d = pair_svd clamp pair.now.bonds.left pair.now.bonds.mid pair.now.bonds.right pair.now.gate pair.now.left.now pair.now.right.now in is_none result ≡ nan_in d }
+    ensures made { let d = pair_svd clamp pair.now.bonds.left pair.now.bonds.mid pair.now.bonds.right pair.now.gate pair.now.left.now pair.now.right.now in IfSome result (Made pair.now.bonds.left pair.now.bonds.right d work.new) }
 {
-    let s = shape_of(bonds.left, bonds.right);
+    let s = shape_of(pair.bonds.left, pair.bonds.right);
     let m = 2 * (s.wide * s.high);
     let end = 2 * (s.vals + s.wide);
-    contract_pair(s.adjoint, left, right, gate, &mut work[..m], bonds);
-    let f = svd_jacobi(&mut work[..end], s.high, s.wide, clamp);
-    let order = f.order;
-    Decomposed {
-        shape: s,
-        order,
-        nan: f.nan,
-    }
+    contract_pair(s.adjoint, pair, &mut work[..m]);
+    let order = svd_jacobi(&mut work[..end], s.high, s.wide, clamp)?;
+    Some(Decomposed { shape: s, order })
 }
 
 // ---- what is kept
@@ -117,7 +95,7 @@ pub struct Kept {
     pub chi: usize,
     pub reason: Reason,
     pub resolvable: bool,
-    pub share: Share,
+    pub share: Option<f64>,
 }
 
 // Of the values s, in order.
@@ -126,28 +104,25 @@ fn keep(s: &[f64], epsilon: f64, max_bond_dim: usize) -> Kept
 {
     let ranked = truncated_svd_rank(s, epsilon, max_bond_dim);
     let chi = ranked.chi;
-    let reason = ranked.reason;
-    let share = discarded_share(s, chi);
     Kept {
         chi,
-        reason,
+        reason: ranked.reason,
         resolvable: discards_resolvable_weight(s, chi),
-        share,
+        share: discarded_share(s, chi),
     }
 }
 
 // Of the decomposition in the work slice.
-pub fn kept_values(work: &[f64], d: Decomposed, epsilon: f64, max_bond_dim: usize) -> Kept
-    requires { (1 ≤ max_bond_dim) × Stands d.shape work.now d.order }
-    ensures kept_of { KeptOf epsilon max_bond_dim (values (standing d.shape work.now d.order)) result }
-    ensures le_chi { (1 ≤ result.chi) × (result.chi ≤ max_bond_dim) × (result.chi ≤ d.shape.wide) }
+pub fn kept_values(work: &[f64], d: &Decomposed, epsilon: f64, max_bond_dim: usize) -> Kept
+    requires { (1 ≤ max_bond_dim) × Stands d.now.shape work.now d.now.order }
+    ensures kept_of { KeptOf epsilon max_bond_dim (values (standing d.now.shape work.now d.now.order)) result }
+    ensures le_chi { (1 ≤ result.chi) × (result.chi ≤ max_bond_dim) × (result.chi ≤ d.now.shape.wide) }
 {
     let s = d.shape;
     let n = s.wide;
     let end = 2 * (s.vals + n);
-    let order = d.order;
     let mut all = [0.0; 256];
-    sorted_values(&work[..end], s.vals, order, &mut all[..n]);
+    sorted_values(&work[..end], s.vals, &d.order, &mut all[..n]);
     keep(&all[..n], epsilon, max_bond_dim)
 }
 
@@ -176,61 +151,46 @@ fn right_factor(s: Shape) -> Factor
     requires { (s.high ≤ 256) × (s.wide ≤ 256) }
     ensures { result ≡ right_factor s }
 {
-    if s.adjoint {
-        Factor {
-            base: 0,
-            stride: s.high,
-        }
-    } else {
-        Factor {
-            base: s.wide * s.high,
-            stride: s.wide,
-        }
-    }
+    let adjoint = !s.adjoint;
+    left_factor(Shape { adjoint, ..s })
 }
 
 // The left site of the decomposition in the work slice. The bonds are those after the cut: the one between the sites is how many values are kept.
-pub fn store_left(
-    slot: &mut [f64],
-    work: &[f64],
-    order: &[u8],
-    s: Shape,
-    side: WeightSide,
-    bonds: Bonds,
-)
+pub fn store_left(slot: &mut [f64], work: &[f64], d: &Decomposed, side: WeightSide, bonds: Bonds)
     requires left_bound { (bonds.left ≤ 128) × (bonds.mid ≤ 256) × (2 * (2 * bonds.left * bonds.mid) ≤ length slot.old) }
-    requires s_value { (s ≡ shape_of bonds.left bonds.right) × Stands s work.now order.now × (bonds.mid ≤ length order.now) }
-    ensures { slot.new ≡ filled (length slot.old) (left_site side bonds.left bonds.mid (standing s work.now order.now)) }
+    requires d_value { (d.now.shape ≡ shape_of bonds.left bonds.right) × Stands d.now.shape work.now d.now.order }
+    ensures { slot.new ≡ filled (length slot.old) (left_site side bonds.left bonds.mid (standing d.now.shape work.now d.now.order)) }
 {
-    let f = left_factor(s);
+    let s = d.shape;
     let end = 2 * (s.vals + s.wide);
-    let w = &work[..end];
+    let u = Columns {
+        numbers: &work[..end],
+        order: &d.order,
+        factor: left_factor(s),
+        kept: bonds.mid,
+    };
     match side {
-        WeightSide::Left => fill_scaled_u_site_data(
-            slot, w, order, f, s.vals, bonds.left, bonds.mid,
-        ),
-        WeightSide::Right => fill_isometry_site_data(slot, w, order, f, bonds.left, bonds.mid),
+        WeightSide::Left => fill_scaled_u_site_data(slot, u, s.vals, bonds.left),
+        WeightSide::Right => fill_isometry_site_data(slot, u, bonds.left),
     }
 }
 
 // The right site.
-pub fn store_right(
-    slot: &mut [f64],
-    work: &[f64],
-    order: &[u8],
-    s: Shape,
-    side: WeightSide,
-    bonds: Bonds,
-)
+pub fn store_right(slot: &mut [f64], work: &[f64], d: &Decomposed, side: WeightSide, bonds: Bonds)
     requires right_bound { (bonds.right ≤ 128) × (bonds.mid ≤ 256) × (2 * (bonds.mid * (2 * bonds.right)) ≤ length slot.old) }
-    requires s_value { (s ≡ shape_of bonds.left bonds.right) × Stands s work.now order.now × (bonds.mid ≤ length order.now) }
-    ensures { slot.new ≡ filled (length slot.old) (right_site side bonds.mid bonds.right (standing s work.now order.now)) }
+    requires d_value { (d.now.shape ≡ shape_of bonds.left bonds.right) × Stands d.now.shape work.now d.now.order }
+    ensures { slot.new ≡ filled (length slot.old) (right_site side bonds.mid bonds.right (standing d.now.shape work.now d.now.order)) }
 {
-    let f = right_factor(s);
+    let s = d.shape;
     let end = 2 * (s.vals + s.wide);
-    let w = &work[..end];
+    let v = Columns {
+        numbers: &work[..end],
+        order: &d.order,
+        factor: right_factor(s),
+        kept: bonds.mid,
+    };
     match side {
-        WeightSide::Left => fill_vt_site_data(slot, w, order, f, bonds.mid, bonds.right),
-        WeightSide::Right => fill_scaled_vt_data(slot, w, order, f, s.vals, bonds.mid, bonds.right),
+        WeightSide::Left => fill_vt_site_data(slot, v, bonds.right),
+        WeightSide::Right => fill_scaled_vt_data(slot, v, s.vals, bonds.right),
     }
 }

@@ -19,9 +19,9 @@ lent n h = length-take-le n (replicate 256 zero_f) h
 
 pub returns : goal.returns
 unfolding values
-returns c = let written : length c.sorted_values.new.s ≡ c.args.d.shape.wide = c.sorted_values.auto.s ∙ lent _ c.requires.1.columns in
-    let a = c.args in let p = c.requires in let d = standing a.d.shape a.work.now a.d.order in
-    let e : KeptOf a.epsilon a.max_bond_dim (values d) c.keep.result = rw (take_at c.sorted_values.new.s _ _ written, c.sorted_values.ensures, lent a.d.shape.wide p.1.columns, p.1.first) at c.keep.ensures in
-    let n : length (values d) ≡ a.d.shape.wide = length_tabulate d.wide (value_at d) in
+returns c = let written : length c.sorted_values.new.s ≡ c.args.d.now.shape.wide = c.sorted_values.auto.s ∙ lent _ c.requires.1.columns in
+    let a = c.args in let p = c.requires in let d = standing a.d.now.shape a.work.now a.d.now.order in
+    let e : KeptOf a.epsilon a.max_bond_dim (values d) c.keep.result = rw (take_at c.sorted_values.new.s _ _ written, c.sorted_values.ensures, lent a.d.now.shape.wide p.1.columns, p.1.first) at c.keep.ensures in
+    let n : length (values d) ≡ a.d.now.shape.wide = length_tabulate d.wide (value_at d) in
     let h : 1 ≤ length (values d) = omega (arith, p.1.some) in
     record { kept_of = e; le_chi = rw e.rank (cut_rank_least a.epsilon a.max_bond_dim (values d) p.0, cut_rank_most a.epsilon a.max_bond_dim (values d), omega (arith, rank_within a.epsilon a.max_bond_dim (values d) h)) }
