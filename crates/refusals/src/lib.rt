@@ -54,17 +54,34 @@ fn first_of(short: bool, outside: bool, improper: bool) -> Answer
 }
 
 // Of start, with a store of this length.
-pub fn start_refusal(n: usize, d: usize, epsilon: f64, clamp: f64, exponent: u8, store: usize) -> Answer
+pub fn start_refusal(
+    n: usize,
+    d: usize,
+    epsilon: f64,
+    clamp: f64,
+    exponent: u8,
+    store: usize,
+) -> Answer
     ensures { result ≡ refusal_of (cond (not (settings_fit n d epsilon clamp exponent)) 1 (cond (ltb store (store_room n d)) 2 0)) }
 {
     if !settings_fit(n, d, epsilon, clamp, exponent) {
         return Err(1);
     }
-    if store < store_room(n, d) { Err(2) } else { Ok(()) }
+    if store < store_room(n, d) {
+        Err(2)
+    } else {
+        Ok(())
+    }
 }
 
 // Of a call that may write the chain, with a store and a work slice of these lengths.
-pub fn call_refusal(chain: &Chain, store: usize, work: usize, outside: bool, improper: bool) -> Answer
+pub fn call_refusal(
+    chain: &Chain,
+    store: usize,
+    work: usize,
+    outside: bool,
+    improper: bool,
+) -> Answer
     ensures { result ≡ refusal_of (first_of (not (sound chain.now)) (ltb store (store_room chain.now.num_qubits chain.now.max_bond_dim) || ltb work (work_room chain.now.max_bond_dim)) outside improper) }
 {
     if !is_sound(chain) {
