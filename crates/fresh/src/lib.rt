@@ -1,13 +1,14 @@
 // A fresh chain: its record and its store, every qubit 0, every bond 1, no centre; and the all-zero record of a refused start.
 #![tactic(auto)]
 
-ghost use Rattle.std.specs.Prelude.{◌≡◌, [], ◌∷◌, ◌≤◌, length};
+ghost use Rattle.std.specs.Prelude.{◌≡◌, [], ◌∷◌, ◌<◌, ◌≤◌, cond, length, ltb};
 ghost use Rattle.complex.specs.Complex.{zero_f, one_f};
 ghost use Rattle.model.specs.Slots.{store_room, filled};
 ghost use Rattle.model.specs.Start.{up_to, fresh_chain, fresh_store, zero_chain};
 
 use columns::fill_zero;
-use model::{Center, Chain};
+use model::Chain;
+use std::array;
 
 // ---- the record
 
@@ -15,22 +16,19 @@ use model::{Center, Chain};
 fn unit_bonds(n: usize) -> [u8; 64]
     ensures { result ≡ up_to n (λ i. 1) }
 {
-    let mut out = [0u8; 64];
-    for i in 0..64usize {
-        out[i] = if i < n { 1 } else { 0 };
-    }
-    out
+    array::from_fn(move |i| u8::from(i < n))
 }
 
 // Each of n qubits at the site of its number.
 fn identity_labels(n: usize) -> [u8; 64]
     ensures { result ≡ up_to n (λ i. i) }
 {
-    let mut out = [0u8; 64];
-    for i in 0..64usize {
-        out[i] = if i < n { i as u8 } else { 0 };
-    }
-    out
+    array::from_fn(
+        move |i|
+            requires { i < 64 }
+            ensures { result ≡ cond (ltb i n) i 0 }
+        { if i < n { i as u8 } else { 0 } },
+    )
 }
 
 pub fn fresh_chain(n: usize, d: usize, epsilon: f64, clamp: f64, exponent: u8) -> Chain
@@ -51,7 +49,7 @@ pub fn fresh_chain(n: usize, d: usize, epsilon: f64, clamp: f64, exponent: u8) -
         logical_to_site: labels,
         site_to_logical: labels,
         classical_bits: bits,
-        center: Center::Unknown,
+        center: None,
         bond_high_water: 1,
         truncation_discarded: 0.0,
         bond_discarded: discarded,
@@ -75,7 +73,7 @@ pub fn zero_chain() -> Chain
         logical_to_site: zeros,
         site_to_logical: zeros,
         classical_bits: bits,
-        center: Center::Unknown,
+        center: None,
         bond_high_water: 0,
         truncation_discarded: 0.0,
         bond_discarded: weights,
@@ -93,7 +91,7 @@ fn fresh_site(slot: &mut [f64])
     slot[0] = 1.0;
 }
 
-// The slots of n sites under the cap d.
+// The slots of n sites under the cap d. Each is a part of the store that is lent, as document 01 asks.
 pub fn fresh_store(store: &mut [f64], n: usize, d: usize)
     requires { (n ≤ 64) × (1 ≤ d) × (d ≤ 128) × (store_room n d ≤ length store.old) }
     ensures { store.new ≡ fresh_store n d store.old }

@@ -1,12 +1,13 @@
-// The number that a call is refused under before it runs, 0 where it is not, and the room that a chain needs.
+// Whether a call is refused before it runs, by which number, and the room that a chain needs.
 #![tactic(auto)]
 
 ghost use Rattle.std.specs.Prelude.{◌≡◌, ◌||◌, not, cond, false, ◌≤◌, ltb};
 ghost use Rattle.model.specs.Slots.{store_room, work_room};
 ghost use Rattle.model.specs.Sound.{settings_fit, sound};
+ghost use Rattle.model.specs.Answers.{refusal_of};
 ghost use Rattle.model.specs.Calls.{first_of, env_room};
 
-use model::Chain;
+use model::{Answer, Chain};
 use sound::{is_sound, settings_fit};
 
 // ---- room, in numbers
@@ -38,47 +39,64 @@ fn is_short(n: usize, d: usize, store: usize, work: usize) -> bool
 }
 
 // The first that holds of a slice too short, an index out of range and a number that is not proper.
-fn first_of(short: bool, outside: bool, improper: bool) -> u8
-    ensures { result ≡ cond short 2 (cond outside 4 (cond improper 5 0)) }
+fn first_of(short: bool, outside: bool, improper: bool) -> Answer
+    ensures { result ≡ refusal_of (cond short 2 (cond outside 4 (cond improper 5 0))) }
 {
     if short {
-        2
+        Err(2)
     } else if outside {
-        4
+        Err(4)
     } else if improper {
-        5
+        Err(5)
     } else {
-        0
+        Ok(())
     }
 }
 
 // Of start, with a store of this length.
-pub fn start_refusal(n: usize, d: usize, epsilon: f64, clamp: f64, exponent: u8, store: usize) -> u8
-    ensures { result ≡ cond (not (settings_fit n d epsilon clamp exponent)) 1 (cond (ltb store (store_room n d)) 2 0) }
+pub fn start_refusal(
+    n: usize,
+    d: usize,
+    epsilon: f64,
+    clamp: f64,
+    exponent: u8,
+    store: usize,
+) -> Answer
+    ensures { result ≡ refusal_of (cond (not (settings_fit n d epsilon clamp exponent)) 1 (cond (ltb store (store_room n d)) 2 0)) }
 {
     if !settings_fit(n, d, epsilon, clamp, exponent) {
-        return 1;
+        return Err(1);
     }
-    if store < store_room(n, d) { 2 } else { 0 }
+    if store < store_room(n, d) {
+        Err(2)
+    } else {
+        Ok(())
+    }
 }
 
 // Of a call that may write the chain, with a store and a work slice of these lengths.
-pub fn call_refusal(chain: Chain, store: usize, work: usize, outside: bool, improper: bool) -> u8
-    ensures { result ≡ first_of (not (sound chain)) (ltb store (store_room chain.num_qubits chain.max_bond_dim) || ltb work (work_room chain.max_bond_dim)) outside improper }
+pub fn call_refusal(
+    chain: &Chain,
+    store: usize,
+    work: usize,
+    outside: bool,
+    improper: bool,
+) -> Answer
+    ensures { result ≡ refusal_of (first_of (not (sound chain.now)) (ltb store (store_room chain.now.num_qubits chain.now.max_bond_dim) || ltb work (work_room chain.now.max_bond_dim)) outside improper) }
 {
     if !is_sound(chain) {
-        return 3;
+        return Err(3);
     }
     let short = is_short(chain.num_qubits, chain.max_bond_dim, store, work);
     first_of(short, outside, improper)
 }
 
 // Of an environment walk, with a result slice of length `out` too.
-pub fn walk_refusal(chain: Chain, store: usize, work: usize, out: usize, outside: bool) -> u8
-    ensures { result ≡ first_of (not (sound chain)) (ltb store (store_room chain.num_qubits chain.max_bond_dim) || ltb work (work_room chain.max_bond_dim) || ltb out (env_room chain.max_bond_dim)) outside false }
+pub fn walk_refusal(chain: &Chain, store: usize, work: usize, out: usize, outside: bool) -> Answer
+    ensures { result ≡ refusal_of (first_of (not (sound chain.now)) (ltb store (store_room chain.now.num_qubits chain.now.max_bond_dim) || ltb work (work_room chain.now.max_bond_dim) || ltb out (env_room chain.now.max_bond_dim)) outside false) }
 {
     if !is_sound(chain) {
-        return 3;
+        return Err(3);
     }
     let d = chain.max_bond_dim;
     let short = is_short(chain.num_qubits, d, store, work) | (out < 2 * d * d);

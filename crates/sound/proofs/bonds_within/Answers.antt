@@ -1,4 +1,4 @@
-use Rattle.std.proofs.Common.{◌∙◌, sym, ap, le_antisymm}
+use Rattle.std.proofs.Common.{◌∙◌, sym, le_antisymm}
 use Rattle.complex.specs.Loops.{every_none, every_more}
 use Rattle.model.specs.Sound.{within}
 use Rattle.sound.specs.First.{every_taken, every_parted}
