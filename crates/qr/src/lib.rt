@@ -1,14 +1,14 @@
 // The thin QR factoring of a gauge move, by modified Gram-Schmidt with reorthogonalisation, in place. The slice holds, in
 // numbers, a matrix of `high` rows and `wide` columns, by columns, from 0 on, whose first columns become q; and r, by rows,
 // from wide * high on.
-#![tactic(auto)]
+#![tactic(auto, using(complex::specs::Loops::each_none, complex::specs::Loops::each_more, complex::specs::Loops::between_none, complex::specs::Loops::between_more), unfolding(model::specs::Qr::term, model::specs::Qr::dot, model::specs::Qr::taken_away, model::specs::Qr::projected_on, model::specs::Qr::pass_of, model::specs::Qr::kept_of, model::specs::Qr::raised))]
 
-ghost use Rattle.std.specs.Prelude.{◌≡◌, ◌+◌, ◌*◌, ◌<◌, ◌≤◌, min, max, length, take};
+ghost use Rattle.std.specs.Prelude.{◌≡◌, ◌+◌, ◌*◌, ◌<◌, ◌≤◌, [], ◌∷◌, min, max, length, take};
 ghost use Rattle.complex.specs.Loops.{between};
 ghost use Rattle.complex.specs.Numbers.{count};
 ghost use Rattle.model.specs.Qr as qr;
 
-use columns::{clear_from, l2_norm, scale_to, smaller, zero_run};
+use columns::{clear_from, l2_norm, scale_to, zero_run};
 use complex::{Complex, complex_at, set_complex};
 
 const QR_MAX_PASSES: usize = 3;
@@ -25,23 +25,15 @@ fn add_term(w: &[f64], a: usize, b: usize, acc: Complex) -> Complex
     acc + complex_at(w, a).conj() * complex_at(w, b)
 }
 
-#[derive(Clone, Copy)]
-struct FourSums {
-    s0: Complex,
-    s1: Complex,
-    s2: Complex,
-    s3: Complex,
-}
-
 // The terms of m whole fours, in four running sums by place.
-fn sum_fours(w: &[f64], a: usize, b: usize, m: usize) -> FourSums
+fn sum_fours(w: &[f64], a: usize, b: usize, m: usize) -> [Complex; 4]
     requires { (a + 4 * m ≤ count w.now) × (b + 4 * m ≤ count w.now) }
-    ensures { (result.s0 ≡ qr.run_of w.now a b (λ t. 4 * t) m) × (result.s1 ≡ qr.run_of w.now a b (λ t. 4 * t + 1) m) × (result.s2 ≡ qr.run_of w.now a b (λ t. 4 * t + 2) m) × (result.s3 ≡ qr.run_of w.now a b (λ t. 4 * t + 3) m) }
+    ensures { result ≡ qr.run_of w.now a b (λ t. 4 * t) m ∷ qr.run_of w.now a b (λ t. 4 * t + 1) m ∷ qr.run_of w.now a b (λ t. 4 * t + 2) m ∷ qr.run_of w.now a b (λ t. 4 * t + 3) m ∷ [] }
 {
-    let mut s0 = Complex { re: 0.0, im: 0.0 };
-    let mut s1 = Complex { re: 0.0, im: 0.0 };
-    let mut s2 = Complex { re: 0.0, im: 0.0 };
-    let mut s3 = Complex { re: 0.0, im: 0.0 };
+    let mut s0 = Complex::ZERO;
+    let mut s1 = Complex::ZERO;
+    let mut s2 = Complex::ZERO;
+    let mut s3 = Complex::ZERO;
     for t in 0..m {
         let k = 4 * t;
         s0 = add_term(w, a + k, b + k, s0);
@@ -49,7 +41,7 @@ fn sum_fours(w: &[f64], a: usize, b: usize, m: usize) -> FourSums
         s2 = add_term(w, a + (k + 2), b + (k + 2), s2);
         s3 = add_term(w, a + (k + 3), b + (k + 3), s3);
     }
-    FourSums { s0, s1, s2, s3 }
+    [s0, s1, s2, s3]
 }
 
 // The terms from place `from` on, added to start.
@@ -70,9 +62,9 @@ fn dot(w: &[f64], a: usize, b: usize, n: usize) -> Complex
     ensures { result ≡ qr.dot w.now a b n }
 {
     let m = n / 4;
-    let f = sum_fours(w, a, b, m);
-    let first = sum_rest(w, a, b, 4 * m, n, f.s0);
-    first + f.s1 + (f.s2 + f.s3)
+    let [s0, s1, s2, s3] = sum_fours(w, a, b, m);
+    let first = sum_rest(w, a, b, 4 * m, n, s0);
+    first + s1 + (s2 + s3)
 }
 
 // d times the n numbers from `from` on, taken from those from `to` on.
@@ -132,14 +124,7 @@ fn keep(
     if residual > QR_RANK_REL_TOL * norm {
         scale_to(w, j * high, rank * high, high, 1.0 / residual);
         let entry = wide * high + (rank * wide + j);
-        set_complex(
-            w,
-            entry,
-            Complex {
-                re: residual,
-                im: 0.0,
-            },
-        );
+        set_complex(w, entry, Complex::from(residual));
         return rank + 1;
     }
     rank
@@ -153,7 +138,7 @@ fn raise(w: &mut [f64], high: usize, rank: usize) -> usize
 {
     if rank == 0 {
         zero_run(w, 0, high);
-        set_complex(w, 0, Complex { re: 1.0, im: 0.0 });
+        set_complex(w, 0, Complex::from(1.0));
         return 1;
     }
     rank
@@ -165,7 +150,7 @@ pub fn factorize_gram_schmidt(w: &mut [f64], high: usize, wide: usize) -> usize
     ensures w_after { qr.kept result w.new ≡ qr.qr high wide (take (2 * (wide * high)) w.old) }
     ensures result_nonzero { (0 < result) × (result ≤ min high wide) }
 {
-    let cap = smaller(high, wide);
+    let cap = high.min(wide);
     clear_from(w, 2 * (wide * high));
     let mut rank = 0usize;
     for j in 0..wide {

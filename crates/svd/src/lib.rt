@@ -1,10 +1,6 @@
 // The singular value decomposition of a matrix of `high` rows and `wide` columns, in place. The slice holds, in numbers,
 // the matrix and the rotations as in jacobi, and behind them the values, each with the imaginary part +0.
-#![tactic(
-    auto,
-    using(complex::specs::Loops::each_none, complex::specs::Loops::each_more, complex::specs::Loops::between_none, complex::specs::Loops::between_more),
-    unfolding(model::specs::Svd::identity_at, model::specs::Svd::normalised, model::specs::Svd::factored, model::specs::Svd::any_nan, model::specs::Svd::earlier, model::specs::Svd::later, model::specs::Svd::order_of)
-)]
+#![tactic(auto, using(complex::specs::Loops::each_none, complex::specs::Loops::each_more, complex::specs::Loops::between_none, complex::specs::Loops::between_more), unfolding(model::specs::Svd::identity_at, model::specs::Svd::normalised, model::specs::Svd::factored, model::specs::Svd::any_nan, model::specs::Svd::earlier, model::specs::Svd::later, model::specs::Svd::order_of))]
 
 ghost use Rattle.std.specs.Prelude.{◌≡◌, ◌+◌, ◌*◌, ◌<◌, ◌≤◌, length, get_or, take, is_none, IfSome};
 ghost use Rattle.complex.specs.Loops.{each, tabulate};

@@ -1,9 +1,5 @@
 // What a cut keeps of its singular values, given in order, why so many, and the share of the weight that it drops.
-#![tactic(
-    auto,
-    using(complex::specs::Loops::each_none),
-    unfolding(model::specs::Truncation::resolvable, model::specs::Truncation::share)
-)]
+#![tactic(auto, using(complex::specs::Loops::each_none), unfolding(model::specs::Truncation::resolvable, model::specs::Truncation::share))]
 
 ghost use Rattle.std.specs.Prelude.{◌≡◌, ◌≤◌, length, get_or};
 ghost use Rattle.std.specs.Float.Ieee.{lt};

@@ -3,4 +3,4 @@ use Rattle.qr.proofs.dot.Goals as goal
 
 pub returns : goal.returns
 unfolding dot
-returns c = rw (c.add-3.ensures, c.add-2.ensures, c.add.ensures, c.sum_rest-first.ensures, c.sum_fours-f.ensures.0, c.sum_fours-f.ensures.1, c.sum_fours-f.ensures.2, c.sum_fours-f.ensures.3)
+returns c = rw (c.add-3.ensures, c.add-2.ensures, c.add.ensures, c.sum_rest-first.ensures, c.sum_fours.ensures)

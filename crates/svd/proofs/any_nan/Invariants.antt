@@ -1,6 +1,6 @@
 use mathlib.Core.Path.{◌≡◌}
 use mathlib.Core.Bool.{false, ◌||◌}
-use Prim.Native.Nat.{◌≤◌, ◌+◌}
+use Prim.Native.Nat.{◌+◌}
 use lib.Ieee.{is_nan}
 use Rattle.complex.specs.Loops.{each}
 use Rattle.complex.specs.Numbers.{at}

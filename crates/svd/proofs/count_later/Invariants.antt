@@ -1,5 +1,5 @@
 use mathlib.Core.Path.{◌≡◌}
-use Prim.Native.Nat.{◌≤◌, ◌<◌, ◌+◌}
+use Prim.Native.Nat.{◌<◌, ◌+◌}
 use lib.Ieee.{lt}
 use Rattle.complex.specs.Loops.{between}
 use Rattle.complex.specs.Numbers.{at}

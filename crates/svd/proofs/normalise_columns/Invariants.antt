@@ -1,6 +1,4 @@
 use mathlib.Core.Path.{◌≡◌}
-use Prim.Native.Nat.{◌≤◌}
-use lib.ListN.{length}
 use Rattle.complex.specs.Loops.{each}
 use Rattle.model.specs.Svd.{normalised}
 use Rattle.svd.proofs.normalise_columns.Given as goal

@@ -1,6 +1,5 @@
 use mathlib.Core.Path.{◌≡◌}
-use Prim.Native.Nat.{◌≤◌, ◌+◌, ◌*◌}
-use lib.ListN.{length}
+use Prim.Native.Nat.{◌+◌, ◌*◌}
 use Rattle.complex.specs.Complex.{real, one_f}
 use Rattle.complex.specs.Loops.{each}
 use Rattle.complex.specs.Numbers.{store}

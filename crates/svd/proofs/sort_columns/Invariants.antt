@@ -1,7 +1,7 @@
 -- The invariant: the first j columns are in their places.
 use mathlib.Core.Path.{◌≡◌}
-use Prim.Native.Nat.{◌≤◌, ◌+◌}
-use lib.ListN.{length, set}
+use Prim.Native.Nat.{◌+◌}
+use lib.ListN.{set}
 use Rattle.complex.specs.Loops.{each}
 use Rattle.complex.specs.Numbers.{at}
 use Rattle.model.specs.Svd.{place}

@@ -1,7 +1,7 @@
 -- The invariant: the first g values are in order.
 use mathlib.Core.Path.{◌≡◌}
-use Prim.Native.Nat.{◌≤◌, ◌+◌}
-use lib.ListN.{length, get_or, take}
+use Prim.Native.Nat.{◌+◌}
+use lib.ListN.{get_or, take}
 use Rattle.complex.specs.Loops.{tabulate}
 use Rattle.complex.specs.Numbers.{at}
 use Rattle.svd.proofs.sorted_values.Given as goal

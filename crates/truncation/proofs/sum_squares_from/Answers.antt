@@ -1,4 +1,3 @@
-use Rattle.std.proofs.Common.{◌<◌, ◌-◌, arith, length}
 use Rattle.std.proofs.lemmas.List.{get_or-drop, take_rest}
 use Rattle.complex.specs.Loops.{each_more}
 use Rattle.truncation.proofs.sum_squares_from.Goals as goal
