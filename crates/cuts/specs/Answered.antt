@@ -1,8 +1,7 @@
 -- A gate's answer beside the state that it leaves, from a run of cuts and the reason of the last.
-use Rattle.std.specs.Prelude.{ℕ, zero, suc, ◌≡◌, refl, Bool}
+use Rattle.std.specs.Prelude.{ℕ, zero, suc, ◌≡◌, refl, Ok, Err}
 use Rattle.std.proofs.Common.{arith, ap}
-use Rattle.model.specs.declared.Applied.{Applied}
-use Rattle.model.specs.declared.Applied.TheVariants as applied
+use Rattle.model.specs.Answers.{Applied}
 use Rattle.model.specs.declared.Reason.{Reason}
 use Rattle.model.specs.Slots.{State}
 use Rattle.model.specs.Cut.{Tried, Ran, ran}
@@ -22,22 +21,22 @@ answered_by reason r = answered (applied_of reason r.refused) r.state
 
 module _ (reason : Reason) where
   -- a number that is not 0
-  pub applied_refused : (k : ℕ) → (k ≡ 0 → ⊥) → applied.Refused k ≡ applied_of reason k
+  pub applied_refused : (k : ℕ) → (k ≡ 0 → ⊥) → Err k ≡ applied_of reason k
   applied_refused zero above = absurd (above refl)
   applied_refused (suc k) above = refl
 
-  refused_number : (k n : ℕ) → applied.Refused n ≡ applied_of reason k → (n ≡ k) × (n ≡ 0 → ⊥)
+  refused_number : (k n : ℕ) → Err n ≡ applied_of reason k → (n ≡ k) × (n ≡ 0 → ⊥)
   refused_number zero n e = let z : ◌≡◌ {A = ℕ} 0 1 = cc in absurd (omega arith)
   refused_number (suc k) n e = let f : n ≡ suc k = cc in (f, λ z. omega arith)
 
-  done_number : (k : ℕ) (x : Reason) → applied.Done x ≡ applied_of reason k → 0 ≡ k
+  done_number : (k : ℕ) (x : Reason) → Ok x ≡ applied_of reason k → 0 ≡ k
   done_number zero x e = refl
   done_number (suc k) x e = cc
 
-  pub ran_refused : (r : Ran) (n : ℕ) (t : State) → answered (applied.Refused n) t ≡ answered_by reason r → (ran n t ≡ r) × (n ≡ 0 → ⊥)
+  pub ran_refused : (r : Ran) (n : ℕ) (t : State) → answered (Err n) t ≡ answered_by reason r → (ran n t ≡ r) × (n ≡ 0 → ⊥)
   ran_refused r n t e = let x = refused_number r.refused n (ap (λ (y : Answered). y.answer) e) in (λ i. ran (x.0 i) (e i).state, x.1)
 
-  pub ran_done : (r : Ran) (x : Reason) (t : State) → answered (applied.Done x) t ≡ answered_by reason r → ran 0 t ≡ r
+  pub ran_done : (r : Ran) (x : Reason) (t : State) → answered (Ok x) t ≡ answered_by reason r → ran 0 t ≡ r
   ran_done r x t e = λ i. ran (done_number r.refused x (ap (λ (y : Answered). y.answer) e) i) (e i).state
 
 -- ---- an attempt
@@ -45,8 +44,3 @@ module _ (reason : Reason) where
 -- where it is not made again
 abbrev pub ran_of : Tried → Ran
 ran_of t = ran t.refused t.state
-
--- an answer, whether the cut is to be made again, and a state are what the attempt t leaves, its values having this reason
-pub record Leaves (a : Applied) (again : Bool) (s : State) (reason : Reason) (t : Tried) : Type 0 where
-  pub answers : answered a s ≡ answered_by reason (ran_of t)
-  pub repeated : again ≡ t.again

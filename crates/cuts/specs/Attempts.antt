@@ -1,20 +1,17 @@
 -- An attempt and a cut by their branches, and that each leaves the chain ready for the next.
-use Rattle.std.specs.Prelude.{ℕ, ◌+◌, ◌^◌, ◌<◌, ◌≡◌, Bool, false, ◌&&◌, ◌||◌, cond, List, ltb, length, Float}
+use Rattle.std.specs.Prelude.{ℕ, ◌+◌, ◌^◌, ◌<◌, ◌≤◌, ◌≡◌, Bool, false, ◌&&◌, ◌||◌, cond, List, ltb, length, Float, Option, Some, Ok, Err}
 use Rattle.std.proofs.Math.Path.{refl, sym, ap}
 use Rattle.std.proofs.Common.{◌∙◌, subst, true≢false, arith}
 use Rattle.std.proofs.Math.Bool.{true, not}
 use Rattle.complex.specs.declared.Complex.{Complex}
 use Rattle.model.specs.declared.Chain.{Chain}
-use Rattle.model.specs.declared.Applied.{Applied}
-use Rattle.model.specs.declared.Applied.TheVariants as applied
 use Rattle.model.specs.declared.Reason.{Reason}
-use Rattle.model.specs.declared.Center.TheVariants.{At}
 use Rattle.model.specs.declared.WeightSide.{WeightSide}
 use Rattle.model.specs.declared.WeightSide.TheVariants.{Right}
-use Rattle.model.specs.Slots.{State, held, slot_of, with_site}
-use Rattle.model.specs.Svd.{Svd, values, raw_value, any_nan}
+use Rattle.model.specs.Slots.{State, held, with_site}
+use Rattle.model.specs.Svd.{values, raw_value, any_nan}
 use Rattle.model.specs.Truncation.{rank, resolvable, share, cut_rank, workspace}
-use Rattle.model.specs.Pair.{pair_svd, left_site, right_site}
+use Rattle.model.specs.Pair.{left_site, right_site}
 use Rattle.model.specs.Moves.{Prepared, prepared, prepared_on, established}
 use Rattle.model.specs.Cut.{known, can_lose, keeps_centre, prepared_for, pair_of, rank_of, reason_in, Tried, tried, weight_site, cut_stored, cut_with, attempt, adjacent, attempt_reason, adjacent_reason}
 use Rattle.model.specs.Statements.Soundness.{Sound}
@@ -23,15 +20,13 @@ use Rattle.model.proofs.Laws.SoundKept.{Keeps, narrowed_keeps, prepared_narrowed
 use Rattle.model.proofs.Laws.CutEnds.{established_prepared, second_not_6}
 use Rattle.model.proofs.Laws.Tests.{either_way}
 use Rattle.truncation.specs.Shares.{shares_of}
+use Rattle.model.specs.Answers.{Applied}
 use Rattle.pair.specs.declared.Bonds.{Bonds}
-use Rattle.cutting.specs.declared.Decomposed.{Decomposed}
-use Rattle.cutting.specs.declared.Kept.{Kept}
-use Rattle.cutting.specs.Shape.{standing, nan_in, Made}
+use Rattle.cutting.specs.Shape.{shape_of, standing, nan_in, Stands}
 use Rattle.cutting.specs.Kept.{KeptOf}
 use Rattle.moves.specs.Ready.{Ready}
 use Rattle.cuts.specs.declared.Cut.{Cut}
-use Rattle.cuts.specs.declared.Weight.{Weight}
-use Rattle.cuts.specs.Answered.{Answered, answered, answered_by, ran_of, Leaves}
+use Rattle.cuts.specs.Answered.{Answered, answered, answered_by, ran_of}
 use Rattle.cuts.specs.Pair.{pair_bonds, recorded_cut}
 
 -- ---- what is left ready
@@ -58,73 +53,64 @@ module _ (c r : Chain) (store out : List Float) (h : Sound c) (k : ℕ) (inside 
 
 -- ---- one cut
 
--- the record c has these settings, and these bonds at the pair k, k + 1
-pub record GoesBy (d : ℕ) (epsilon clamp : Float) (k : ℕ) (b : Bonds) (c : Chain) : Type 0 where
-  pub cap : d ≡ c.max_bond_dim
-  pub tolerance : epsilon ≡ c.svd_epsilon
-  pub least : clamp ≡ c.norm_clamp_min
-  pub bonds : b ≡ pair_bonds c k
+-- what storing a cut asks: its decomposition is of the pair k, k + 1 of c and stands at the front of w, and as many values are kept as the cap allows
+pub record Storable (k : ℕ) (c : Chain) (w : List Float) (r : Cut) : Type 0 where
+  pub shape : r.pair.shape ≡ shape_of (pair_bonds c k).left (pair_bonds c k).right
+  pub stands : Stands r.pair.shape w r.pair.order
+  pub least : 1 ≤ r.kept.chi
+  pub most : r.kept.chi ≤ c.max_bond_dim
 
--- the record after the cut r: as it was where that is not stored
-abbrev pub recorded_by : Chain → ℕ → Weight → Cut → Chain
-recorded_by c k x r =
-    cond r.stored (recorded_cut c k r.chi (shares_of r.share) (cond x.maintained (At (weight_site x.side k)) c.center)) c
+-- r is the cut of the pair k, k + 1 with the gate on it, none of its values a NaN, and w begins with it
+pub record CutOf (gate : List (List Complex)) (k : ℕ) (s : State) (w : List Float) (r : Cut) : Type 0 where
+  pub whole : standing r.pair.shape w r.pair.order ≡ pair_of gate k s
+  pub number : nan_in (pair_of gate k s) ≡ false
+  pub kept : KeptOf s.chain.svd_epsilon s.chain.max_bond_dim (values (pair_of gate k s)) r.kept
+  pub storable : Storable k s.chain w r
 
-module _ (gate : List (List Complex)) (d : ℕ) (epsilon clamp : Float) (k : ℕ) (b : Bonds) (c : Chain) (g : GoesBy d epsilon clamp k b c) (store : List Float) where
-  abbrev pair_by : Svd
-  pair_by = pair_svd clamp b.left b.mid b.right gate (slot_of d k store) (slot_of d (k + 1) store)
+-- the state after it, with its weight on one side and the centre `at`
+abbrev pub stored_by : WeightSide → ℕ → List Float → Cut → Option ℕ → State → State
+stored_by side k w r at s =
+    held (recorded_cut s.chain k r.kept.chi (shares_of r.kept.share) at)
+    (with_site s.chain.max_bond_dim (k + 1) (right_site side r.kept.chi (pair_bonds s.chain k).right (standing r.pair.shape w r.pair.order))
+    (with_site s.chain.max_bond_dim k (left_site side (pair_bonds s.chain k).left r.kept.chi (standing r.pair.shape w r.pair.order)) s.store))
 
-  pair_by_lem : pair_by ≡ pair_of gate k (held c store)
-  pair_by_lem = rw (g.least, g.cap, g.bonds)
+module _ (gate : List (List Complex)) (k : ℕ) (s : State) where
+  pub cut_nan : (maintained : Bool) (side : WeightSide) → nan_in (pair_of gate k s) ≡ true → cut_with gate k maintained (prepared side s) ≡ tried 7 false s
+  unfolding cut_with
+  cut_nan maintained side z = rw z
 
-  -- r is the decomposition, and w begins with it
-  module _ (maintained : Bool) (side : WeightSide) (w : List Float) (r : Decomposed) (m : Made b.left b.right pair_by w r) where
-    abbrev Leaving : Applied → Bool → State → Type 0
-    Leaving a again t = Leaves a again t (reason_in gate k (held c store)) (cut_with gate k maintained (prepared side (held c store)))
+  module _ (w : List Float) (r : Cut) (h : CutOf gate k s w r) where
+    abbrev chi : ℕ
+    chi = rank s.chain.svd_epsilon s.chain.max_bond_dim (values (pair_of gate k s))
 
-    pub cut_nan : r.nan ≡ true → Leaving (applied.Refused 7) false (held c store)
+    kept_share : shares_of r.kept.share ≡ share (values (pair_of gate k s)) chi
+    kept_share = h.kept.share ∙ ap (share (values (pair_of gate k s))) h.kept.rank
+
+    kept_lost : r.kept.resolvable ≡ resolvable (values (pair_of gate k s)) chi
+    kept_lost = h.kept.resolvable ∙ ap (resolvable (values (pair_of gate k s))) h.kept.rank
+
+    pub cut_again : r.kept.resolvable ≡ true → cut_with gate k false (prepared Right s) ≡ tried 0 true s
     unfolding cut_with
-    cut_nan z = let y : nan_in (pair_of gate k (held c store)) ≡ true = ap nan_in (sym pair_by_lem) ∙ sym m.nan ∙ z in rw y (record { answers = refl; repeated = refl })
+    cut_again t = rw (h.number, sym kept_lost ∙ t)
 
-    module _ (z : r.nan ≡ false) (kept : Kept) (h : KeptOf epsilon d (values (standing r.shape w r.order)) kept) where
-      abbrev chi : ℕ
-      chi = rank c.svd_epsilon c.max_bond_dim (values (pair_of gate k (held c store)))
-
-      not_nan : nan_in (pair_of gate k (held c store)) ≡ false
-      not_nan = ap nan_in (sym pair_by_lem) ∙ sym m.nan ∙ z
-
-      whole : standing r.shape w r.order ≡ pair_of gate k (held c store)
-      whole = m.whole ∙ pair_by_lem
-
-      kept_of : KeptOf c.svd_epsilon c.max_bond_dim (values (pair_of gate k (held c store))) kept
-      kept_of = rw (whole, g.tolerance, g.cap) at h
-
-      kept_share : shares_of kept.share ≡ share (values (pair_of gate k (held c store))) chi
-      kept_share = kept_of.share ∙ ap (share (values (pair_of gate k (held c store)))) kept_of.rank
-
-      kept_lost : kept.resolvable ≡ resolvable (values (pair_of gate k (held c store))) chi
-      kept_lost = kept_of.resolvable ∙ ap (resolvable (values (pair_of gate k (held c store)))) kept_of.rank
-
-      pub cut_again : not maintained && kept.resolvable ≡ true → Leaving (applied.Done kept.reason) true (held c store)
-      unfolding cut_with
-      cut_again t =
-          let y = ap (λ (x : Bool). not maintained && x) (sym kept_lost) ∙ t in
-          rw (not_nan, y) (record { answers = ap (λ (x : Reason). answered (applied.Done x) (held c store)) kept_of.reason; repeated = refl })
-
-      pub cut_stored_lem : not maintained && kept.resolvable ≡ false
-          → Leaving (applied.Done kept.reason) false
-          (held (recorded_cut c k kept.chi (shares_of kept.share) (cond maintained (At (weight_site side k)) c.center))
-          (with_site d (k + 1) (right_site side kept.chi b.right (standing r.shape w r.order))
-          (with_site d k (left_site side b.left kept.chi (standing r.shape w r.order)) store)))
-      unfolding cut_with
-      cut_stored_lem t =
-          let y = ap (λ (x : Bool). not maintained && x) (sym kept_lost) ∙ t in
-          rw (not_nan, y, kept_share, kept_of.rank, kept_of.reason, whole, g.bonds, g.cap) (record { answers = refl; repeated = refl })
+    pub cut_stored_lem : (maintained : Bool) (side : WeightSide) → not maintained && r.kept.resolvable ≡ false
+        → cut_with gate k maintained (prepared side s) ≡ tried 0 false (stored_by side k w r (cond maintained (Some (weight_site side k)) s.chain.center) s)
+    unfolding cut_with
+    cut_stored_lem maintained side t =
+        let y = ap (λ (x : Bool). not maintained && x) (sym kept_lost) ∙ t in
+        rw (h.number, y, kept_share, h.kept.rank, h.whole)
 
 -- ---- the cut of a pair that the centre is on
 
 abbrev pub prepared_by : List (List Complex) → ℕ → Prepared → Answered
 prepared_by gate k p = answered_by (reason_in gate k p.state) (ran_of (cut_with gate k true p))
+
+module _ (gate : List (List Complex)) (k : ℕ) (s : State) (side : WeightSide) where
+  pub prepared_nan : nan_in (pair_of gate k s) ≡ true → answered (Err 7) s ≡ prepared_by gate k (prepared side s)
+  prepared_nan z = rw (cut_nan gate k s true side z)
+
+  pub prepared_stored : (w : List Float) (r : Cut) → CutOf gate k s w r → answered (Ok r.kept.reason) (stored_by side k w r (Some (weight_site side k)) s) ≡ prepared_by gate k (prepared side s)
+  prepared_stored w r h = rw (cut_stored_lem gate k s w r h true side refl, h.kept.reason)
 
 -- ---- an attempt by its branches
 
@@ -178,7 +164,7 @@ pub keeps_centre_lem : (k : ℕ) (s : State) (b : Bonds) → b ≡ pair_bonds s.
 keeps_centre_lem k s b eb e = rw eb at e
 
 module _ (gate : List (List Complex)) (k : ℕ) (s : State) (b : Bonds) (eb : b ≡ pair_bonds s.chain k) where
-  pub adjacent_above : above s b ≡ true → answered (applied.Refused 6) s ≡ adjacent_by gate k s
+  pub adjacent_above : above s b ≡ true → answered (Err 6) s ≡ adjacent_by gate k s
   unfolding attempt adjacent adjacent_reason
   adjacent_above e = rw (rw eb at e)
 
@@ -203,13 +189,13 @@ module _ (gate : List (List Complex)) (k : ℕ) (s : State) (b : Bonds) (eb : b 
       first : attempt gate k s ≡ cut_with gate k false (prepared Right s)
       first = attempt_bare gate k s inside_room (rw eb at e)
 
-      pub bare_once : (a : Applied) (again : Bool) (t : State) → again ≡ false → Leaves a again t (reason_in gate k s) (cut_with gate k false (prepared Right s)) → answered a t ≡ adjacent_by gate k s
-      bare_once a again t z l =
+      pub bare_once : (t : Tried) → cut_with gate k false (prepared Right s) ≡ t → t.again ≡ false → answered_by (reason_in gate k s) (ran_of t) ≡ adjacent_by gate k s
+      bare_once t l z =
           let n : keeps_centre k s ≡ false = rw eb at e in
           let same : answered_by (reason_in gate k s) (ran_of (cut_with gate k false (prepared Right s))) ≡ answered_by (attempt_reason gate k s) (ran_of (attempt gate k s)) = rw (first, n) in
-          l.answers ∙ same ∙ once (ap (λ (x : Tried). x.again) first ∙ sym l.repeated ∙ z)
+          ap (λ (x : Tried). answered_by (reason_in gate k s) (ran_of x)) (sym l) ∙ same ∙ once (ap (λ (x : Tried). x.again) (first ∙ l) ∙ z)
 
-      -- and again, after a centre is established: u is the state that is left of t's store, which is the one before
+      -- and again, after a centre is established
       module _ (h : Sound s.chain) (inside : k + 1 < s.chain.num_qubits) (z : (cut_with gate k false (prepared Right s)).again ≡ true) where
         abbrev second : State
         second = established k s
@@ -238,9 +224,6 @@ module _ (gate : List (List Complex)) (k : ℕ) (s : State) (b : Bonds) (eb : b 
         again_answers : prepared_by gate k (prepared Right second) ≡ adjacent_by gate k s
         again_answers = ap (prepared_by gate k) (sym (established_prepared k s)) ∙ kept_answers gate k second room centre ∙ made_again
 
-      pub twice : Sound s.chain → k + 1 < s.chain.num_qubits → (a : Applied) (again : Bool) (t : State) → again ≡ true → Leaves a again t (reason_in gate k s) (cut_with gate k false (prepared Right s))
-          → (x : Answered) (u : State) → u ≡ established k (held s.chain t.store) → x ≡ prepared_by gate k (prepared Right u) → x ≡ adjacent_by gate k s
-      twice h inside a again t z l x u e f =
-          let y = sym l.repeated ∙ z in
-          let untouched : t.store ≡ s.store = ap (λ (x : Answered). x.state.store) l.answers ∙ ap (λ (x : State). x.store) (bare_untouched gate k s y) in
-          f ∙ ap (λ (v : State). prepared_by gate k (prepared Right v)) (e ∙ ap (λ (st : List Float). established k (held s.chain st)) untouched) ∙ again_answers h inside y
+      pub twice : Sound s.chain → k + 1 < s.chain.num_qubits → cut_with gate k false (prepared Right s) ≡ tried 0 true s
+          → (x : Answered) (u : State) → u ≡ established k s → x ≡ prepared_by gate k (prepared Right u) → x ≡ adjacent_by gate k s
+      twice h inside z x u e f = f ∙ ap (λ (v : State). prepared_by gate k (prepared Right v)) e ∙ again_answers h inside (ap (λ (t : Tried). t.again) z)

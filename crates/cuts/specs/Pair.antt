@@ -1,12 +1,11 @@
 -- A pair of neighbours: its bonds, room to cut it, and the record after the cut.
-use Rattle.std.specs.Prelude.{ℕ, ◌+◌, ◌*◌, ◌%◌, ◌^◌, ◌≤◌, ◌<◌, min, ◌≡◌, List, ltb, length, get_or, Float}
+use Rattle.std.specs.Prelude.{ℕ, ◌+◌, ◌*◌, ◌%◌, ◌^◌, ◌≤◌, ◌<◌, min, ◌≡◌, List, ltb, length, get_or, Float, Option}
 use Rattle.std.proofs.Common.{ap, sym, ◌∙◌, mul-le-mul, mod-eq_of_lt, arith, le-ltb}
 use Rattle.std.proofs.Math.Nat.{min-eq_right, pow-le-pow_right}
 use Rattle.std.proofs.Math.Decide.{dec_lt}
 use Rattle.complex.specs.Numbers.{count}
 use Rattle.complex.specs.Parts.{put}
 use Rattle.model.specs.declared.Chain.{Chain}
-use Rattle.model.specs.declared.Center.{Center}
 use Rattle.model.specs.Chain.{with_center, with_bond}
 use Rattle.model.specs.Cut.{cut_recorded}
 use Rattle.model.specs.Truncation.{workspace}
@@ -38,7 +37,7 @@ pub record SlotsOf (d k : ℕ) (r : Slots) : Type 0 where
   pub right_end : r.right_end ≡ (k + 1) * slot_room d + slot_room d
 
 -- the bond, the widest bond so far, the weights discarded so far, the chain's and the bond's, with a cut's shares added, and the centre
-abbrev pub recorded_cut : Chain → ℕ → ℕ → List Float → Center → Chain
+abbrev pub recorded_cut : Chain → ℕ → ℕ → List Float → Option ℕ → Chain
 recorded_cut c k chi shares at = with_center (cut_recorded k chi shares (with_bond c k chi)) at
 
 -- the numbers that a cut of these bonds works in

@@ -56,7 +56,7 @@ fn shape_of(bl: usize, br: usize) -> Shape
 // The gate on the two sites' contraction, as the matrix that is decomposed.
 fn contract_pair(adjoint: bool, pair: &Neighbours, out: &mut [f64])
     requires { length out.old ≡ 2 * (2 * pair.now.bonds.right * (2 * pair.now.bonds.left)) }
-    ensures { out.new ≡ matrix_for adjoint pair.now.bonds.left pair.now.bonds.right (gated_theta pair.now.gate pair.now.bonds.mid pair.now.bonds.right pair.now.left.now pair.now.right.now) }
+    ensures { out.new ≡ matrix_for adjoint pair.now.bonds.left pair.now.bonds.right (gated_theta pair.now.gate.now pair.now.bonds.mid pair.now.bonds.right pair.now.left.now pair.now.right.now) }
 {
     if adjoint {
         pair.contract::<true>(out);
@@ -76,8 +76,8 @@ pub struct Decomposed {
 pub fn decompose(pair: &Neighbours, work: &mut [f64], clamp: f64) -> Option<Decomposed>
     requires le_left { (1 ≤ pair.now.bonds.left) × (1 ≤ pair.now.bonds.right) }
     requires work_bound { room (shape_of pair.now.bonds.left pair.now.bonds.right) ≤ length work.old }
-    ensures nan { let d = pair_svd clamp pair.now.bonds.left pair.now.bonds.mid pair.now.bonds.right pair.now.gate pair.now.left.now pair.now.right.now in is_none result ≡ nan_in d }
-    ensures made { let d = pair_svd clamp pair.now.bonds.left pair.now.bonds.mid pair.now.bonds.right pair.now.gate pair.now.left.now pair.now.right.now in IfSome result (Made pair.now.bonds.left pair.now.bonds.right d work.new) }
+    ensures nan { let d = pair_svd clamp pair.now.bonds.left pair.now.bonds.mid pair.now.bonds.right pair.now.gate.now pair.now.left.now pair.now.right.now in is_none result ≡ nan_in d }
+    ensures made { let d = pair_svd clamp pair.now.bonds.left pair.now.bonds.mid pair.now.bonds.right pair.now.gate.now pair.now.left.now pair.now.right.now in IfSome result (Made pair.now.bonds.left pair.now.bonds.right d work.new) }
 {
     let s = shape_of(pair.bonds.left, pair.bonds.right);
     let m = 2 * (s.wide * s.high);

@@ -8,7 +8,6 @@ ghost use Rattle.model.specs.Environment.{left_across, right_across, left_env, r
 ghost use Rattle.walks.specs.Products.{env_of};
 ghost use Rattle.environments.specs.Walk.{Walkable, Crossing};
 
-use gauge::copy_numbers;
 use model::Chain;
 use walks::{identity, left_across, right_across};
 
@@ -97,5 +96,5 @@ pub fn write_environment(out: &mut [f64], work: &[f64], dim: usize)
     ensures { out.new ≡ take (2 * (dim * dim)) work.now ++ drop (2 * (dim * dim)) out.old }
 {
     let n = 2 * (dim * dim);
-    copy_numbers(work, &mut out[..n]);
+    out[..n].copy_from_slice(&work[..n]);
 }

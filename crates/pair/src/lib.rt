@@ -123,7 +123,7 @@ fn dots(
 pub struct Neighbours<'a> {
     pub left: &'a [f64],
     pub right: &'a [f64],
-    pub gate: [[Complex; 4]; 4],
+    pub gate: &'a [[Complex; 4]; 4],
     pub bonds: Bonds,
     pub ghost few: { (bonds.left ≤ 128) × (bonds.mid ≤ 128) × (bonds.right ≤ 128) },
     pub ghost within: { (bonds.left * (2 * bonds.mid) ≤ count left.now) × (bonds.mid * (2 * bonds.right) ≤ count right.now) },
@@ -133,18 +133,18 @@ impl<'a> Neighbours<'a> {
     // The four elements of a and b, with the gate on them.
     fn block(&self, a: usize, b: usize) -> Block
         requires { (a < self.now.bonds.left) × (b < self.now.bonds.right) }
-        ensures { result ≡ gated_block self.now.gate self.now.bonds.mid self.now.bonds.right self.now.left.now self.now.right.now a b }
+        ensures { result ≡ gated_block self.now.gate.now self.now.bonds.mid self.now.bonds.right self.now.left.now self.now.right.now a b }
     {
         let mid = self.bonds.mid;
         let br = self.bonds.right;
         let l0 = a * (2 * mid);
-        dots(self.left, l0, self.right, 2 * br, b, br + b, mid).gated(&self.gate)
+        dots(self.left, l0, self.right, 2 * br, b, br + b, mid).gated(self.gate)
     }
 
     // The elements of one b, by columns: row a * 2 + i and column j * br + b, or the conjugates with row and column exchanged.
     fn contract_line<const ADJOINT: bool>(&self, out: &mut [f64], b: usize)
         requires { (b < self.now.bonds.right) × (length out.old ≡ 2 * (2 * self.now.bonds.right * (2 * self.now.bonds.left))) }
-        ensures { out.new ≡ line self.now.bonds.left (place_of ADJOINT self.now.bonds.left self.now.bonds.right) (element_of ADJOINT (gated_theta self.now.gate self.now.bonds.mid self.now.bonds.right self.now.left.now self.now.right.now)) b out.old }
+        ensures { out.new ≡ line self.now.bonds.left (place_of ADJOINT self.now.bonds.left self.now.bonds.right) (element_of ADJOINT (gated_theta self.now.gate.now self.now.bonds.mid self.now.bonds.right self.now.left.now self.now.right.now)) b out.old }
     {
         let bl = self.bonds.left;
         let br = self.bonds.right;
@@ -162,7 +162,7 @@ impl<'a> Neighbours<'a> {
     // ADJOINT: its conjugate transpose, by columns. The conjugate is taken after the gate.
     pub fn contract<const ADJOINT: bool>(&self, out: &mut [f64])
         requires { length out.old ≡ 2 * (2 * self.now.bonds.right * (2 * self.now.bonds.left)) }
-        ensures { let th = gated_theta self.now.gate self.now.bonds.mid self.now.bonds.right self.now.left.now self.now.right.now in out.new ≡ cond ADJOINT (adjoint_of self.now.bonds.left self.now.bonds.right th) (matrix_of self.now.bonds.left self.now.bonds.right th) }
+        ensures { let th = gated_theta self.now.gate.now self.now.bonds.mid self.now.bonds.right self.now.left.now self.now.right.now in out.new ≡ cond ADJOINT (adjoint_of self.now.bonds.left self.now.bonds.right th) (matrix_of self.now.bonds.left self.now.bonds.right th) }
     {
         for b in 0..self.bonds.right {
             self.contract_line::<ADJOINT>(out, b);

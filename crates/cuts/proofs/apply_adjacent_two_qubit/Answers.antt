@@ -1,8 +1,9 @@
 use mathlib.Core.Path.{refl, sym, ◌∙◌}
+use mathlib.Core.Bool.{false}
 use native.Mathlib.Omega.{arith}
-use borrow.Author.Tests.{not-true, not-false}
-use Rattle.cuts.specs.Pair.{pair_of}
-use Rattle.cuts.specs.Attempts.{ready_keeps, established_keeps, adjacent_above, centered_once, bare_once, twice}
+use Rattle.std.proofs.lemmas.Result.{err_from_is_err_and}
+use Rattle.model.specs.declared.WeightSide.TheVariants.{Right}
+use Rattle.cuts.specs.Attempts.{ready_keeps, established_keeps, cut_nan, cut_again, cut_stored_lem, adjacent_above, centered_once, bare_once, twice}
 use Rattle.cuts.proofs.apply_adjacent_two_qubit.Goals as goal
 
 pub returns-then-workspace_exceeded : goal.returns-then-workspace_exceeded
@@ -11,19 +12,22 @@ returns-then-workspace_exceeded c = adjacent_above _ _ _ _ c.pair_bonds-bonds.en
 pub returns-then-keeps_center : goal.returns-then-keeps_center
 returns-then-keeps_center c = centered_once _ _ _ _ c.pair_bonds-bonds.ensures.value (sym c.workspace_exceeded.ensures ∙ c.if-workspace_exceeded.false) _ (sym c.keeps_center.ensures ∙ c.if-keeps_center.true) c.cut_centered.ensures
 
-pub cut_pair-cut-requires : goal.cut_pair-cut-requires
-cut_pair-cut-requires c = (c.requires.ready.sound.settings.cap.0, pair_of _ _ _ c.requires.ready _ c.requires.k_bound _ c.pair_bonds-bonds.ensures.value)
-
-pub returns-then-not-cut : goal.returns-then-not-cut
-returns-then-not-cut c = rw (c.conclude.ensures.0, c.conclude.ensures.1)
-    (bare_once _ _ _ _ c.pair_bonds-bonds.ensures.value (sym c.workspace_exceeded.ensures ∙ c.if-workspace_exceeded.false) (sym c.keeps_center.ensures ∙ c.if-keeps_center.false) _ _ _ (not-true _ c.if-not-cut.true)
-    (c.cut_pair-cut.ensures.leaves _ (record { cap = refl; tolerance = refl; least = refl; bonds = c.pair_bonds-bonds.ensures.value })))
+pub returns-in_err-cut : goal.returns-in_err-cut
+returns-in_err-cut c = let p = err_from_is_err_and c.from_residual.result c.from_residual.ensures.1 in let n = c.in_err-cut.ensures.nan in
+    rw (p.1, p.2, n.0)
+    (bare_once _ _ _ _ c.pair_bonds-bonds.ensures.value (sym c.workspace_exceeded.ensures ∙ c.if-workspace_exceeded.false) (sym c.keeps_center.ensures ∙ c.if-keeps_center.false) _ (cut_nan _ _ _ false Right n.1) refl)
 
 pub cut_prepared-requires : goal.cut_prepared-requires
-cut_prepared-requires c = let h = c.requires in let p = c.cut_pair-cut in let e = c.establish_center-found in
+cut_prepared-requires c = let h = c.requires in let p = c.cut_pair in let e = c.establish_center in
     let x = established_keeps _ _ _ _ h.ready.sound _ h.k_bound e.ensures in
-    record { ready = ready_keeps _ _ _ _ _ _ h.ready x (e.auto.store ∙ p.auto.store) (e.auto.work ∙ p.auto.work); k_bound = omega (arith, x.qubits, h.k_bound) }
+    record { ready = ready_keeps _ _ _ _ _ _ h.ready x e.auto.store (e.auto.work ∙ p.auto.work); k_bound = omega (arith, x.qubits, h.k_bound) }
+
+pub returns-then-cut : goal.returns-then-cut
+returns-then-cut c = twice _ _ _ _ c.pair_bonds-bonds.ensures.value (sym c.workspace_exceeded.ensures ∙ c.if-workspace_exceeded.false) (sym c.keeps_center.ensures ∙ c.if-keeps_center.false) c.requires.ready.sound c.requires.k_bound
+    (cut_again _ _ _ _ _ c.in_ok-cut.ensures.cut c.if-cut.true) _ _ c.establish_center.ensures c.cut_prepared.ensures
 
 pub returns : goal.returns
-returns c = twice _ _ _ _ c.pair_bonds-bonds.ensures.value (sym c.workspace_exceeded.ensures ∙ c.if-workspace_exceeded.false) (sym c.keeps_center.ensures ∙ c.if-keeps_center.false) c.requires.ready.sound c.requires.k_bound _ _ _ (not-false _ c.if-not-cut.false)
-    (c.cut_pair-cut.ensures.leaves _ (record { cap = refl; tolerance = refl; least = refl; bonds = c.pair_bonds-bonds.ensures.value })) _ _ c.establish_center-found.ensures c.cut_prepared.ensures
+returns c =
+    let h = c.in_ok-cut.ensures.cut in
+    rw (c.store_cut.ensures, h.kept.reason)
+    (bare_once _ _ _ _ c.pair_bonds-bonds.ensures.value (sym c.workspace_exceeded.ensures ∙ c.if-workspace_exceeded.false) (sym c.keeps_center.ensures ∙ c.if-keeps_center.false) _ (cut_stored_lem _ _ _ _ _ h false Right c.if-cut.false) refl)

@@ -43,12 +43,12 @@ returns-in_err-order-clause-nan c = let a = c.args in let p = c.requires in let 
     let b = a.pair.now.bonds in
     let long : room s ≤ length a.work.now = rw e p.work_bound in let z = shape_small _ _ _ e few.0 few.2 in
     let matrix = c.contract_pair.new.out in let kept = c.contract_pair.auto.out in let w = c.svd_jacobi.new.w in
-    let th = gated_theta a.pair.now.gate b.mid b.right a.pair.now.left.now a.pair.now.right.now in
+    let th = gated_theta a.pair.now.gate.now b.mid b.right a.pair.now.left.now a.pair.now.right.now in
     let made : w ≡ factored s.high s.wide a.clamp (matrix_for s.adjoint b.left b.right th) =
     rw (c.svd_jacobi.ensures.w_after, z.2) (ap (factored s.high s.wide a.clamp) (front s a.work.now long matrix kept ∙ c.contract_pair.ensures)) in
-    let q : pair_svd a.clamp b.left b.mid b.right a.pair.now.gate a.pair.now.left.now a.pair.now.right.now ≡ ordered s.adjoint s.high s.wide (factored s.high s.wide a.clamp (matrix_for s.adjoint b.left b.right th)) =
-    rw e (pair_shape b.left b.right a.clamp b.mid a.pair.now.gate a.pair.now.left.now a.pair.now.right.now) in
-    let told : is_none c.svd_jacobi.result ≡ nan_in (pair_svd a.clamp b.left b.mid b.right a.pair.now.gate a.pair.now.left.now a.pair.now.right.now) = rw (q, c.svd_jacobi.ensures.nan_value, made) in
+    let q : pair_svd a.clamp b.left b.mid b.right a.pair.now.gate.now a.pair.now.left.now a.pair.now.right.now ≡ ordered s.adjoint s.high s.wide (factored s.high s.wide a.clamp (matrix_for s.adjoint b.left b.right th)) =
+    rw e (pair_shape b.left b.right a.clamp b.mid a.pair.now.gate.now a.pair.now.left.now a.pair.now.right.now) in
+    let told : is_none c.svd_jacobi.result ≡ nan_in (pair_svd a.clamp b.left b.mid b.right a.pair.now.gate.now a.pair.now.left.now a.pair.now.right.now) = rw (q, c.svd_jacobi.ensures.nan_value, made) in
     rw c.from_residual.ensures (rw c.in_err-order.was at told)
 
 pub returns-clause-nan : goal.returns-clause-nan
@@ -57,12 +57,12 @@ returns-clause-nan c = let a = c.args in let p = c.requires in let s = c.shape_o
     let b = a.pair.now.bonds in
     let long : room s ≤ length a.work.now = rw e p.work_bound in let z = shape_small _ _ _ e few.0 few.2 in
     let matrix = c.contract_pair.new.out in let kept = c.contract_pair.auto.out in let w = c.svd_jacobi.new.w in
-    let th = gated_theta a.pair.now.gate b.mid b.right a.pair.now.left.now a.pair.now.right.now in
+    let th = gated_theta a.pair.now.gate.now b.mid b.right a.pair.now.left.now a.pair.now.right.now in
     let made : w ≡ factored s.high s.wide a.clamp (matrix_for s.adjoint b.left b.right th) =
     rw (c.svd_jacobi.ensures.w_after, z.2) (ap (factored s.high s.wide a.clamp) (front s a.work.now long matrix kept ∙ c.contract_pair.ensures)) in
-    let q : pair_svd a.clamp b.left b.mid b.right a.pair.now.gate a.pair.now.left.now a.pair.now.right.now ≡ ordered s.adjoint s.high s.wide (factored s.high s.wide a.clamp (matrix_for s.adjoint b.left b.right th)) =
-    rw e (pair_shape b.left b.right a.clamp b.mid a.pair.now.gate a.pair.now.left.now a.pair.now.right.now) in
-    let told : is_none c.svd_jacobi.result ≡ nan_in (pair_svd a.clamp b.left b.mid b.right a.pair.now.gate a.pair.now.left.now a.pair.now.right.now) = rw (q, c.svd_jacobi.ensures.nan_value, made) in
+    let q : pair_svd a.clamp b.left b.mid b.right a.pair.now.gate.now a.pair.now.left.now a.pair.now.right.now ≡ ordered s.adjoint s.high s.wide (factored s.high s.wide a.clamp (matrix_for s.adjoint b.left b.right th)) =
+    rw e (pair_shape b.left b.right a.clamp b.mid a.pair.now.gate.now a.pair.now.left.now a.pair.now.right.now) in
+    let told : is_none c.svd_jacobi.result ≡ nan_in (pair_svd a.clamp b.left b.mid b.right a.pair.now.gate.now a.pair.now.left.now a.pair.now.right.now) = rw (q, c.svd_jacobi.ensures.nan_value, made) in
     rw c.in_ok-order.was at told
 
 pub returns-clause-made : goal.returns-clause-made
@@ -71,13 +71,13 @@ returns-clause-made c = let a = c.args in let p = c.requires in let s = c.shape_
     let b = a.pair.now.bonds in
     let long : room s ≤ length a.work.now = rw e p.work_bound in let z = shape_small _ _ _ e few.0 few.2 in
     let matrix = c.contract_pair.new.out in let kept = c.contract_pair.auto.out in let w = c.svd_jacobi.new.w in let rest = drop (2 * (s.vals + s.wide)) (matrix ++ drop (size s) a.work.now) in
-    let th = gated_theta a.pair.now.gate b.mid b.right a.pair.now.left.now a.pair.now.right.now in
+    let th = gated_theta a.pair.now.gate.now b.mid b.right a.pair.now.left.now a.pair.now.right.now in
     let made : w ≡ factored s.high s.wide a.clamp (matrix_for s.adjoint b.left b.right th) =
     rw (c.svd_jacobi.ensures.w_after, z.2) (ap (factored s.high s.wide a.clamp) (front s a.work.now long matrix kept ∙ c.contract_pair.ensures)) in
     let order = c.in_ok-order.ensures.order_value in
     let same : length w ≡ room s = c.svd_jacobi.auto.w ∙ rw z.2 (whole s a.work.now long matrix kept) in
-    let q : pair_svd a.clamp b.left b.mid b.right a.pair.now.gate a.pair.now.left.now a.pair.now.right.now ≡ ordered s.adjoint s.high s.wide (factored s.high s.wide a.clamp (matrix_for s.adjoint b.left b.right th)) =
-    rw e (pair_shape b.left b.right a.clamp b.mid a.pair.now.gate a.pair.now.left.now a.pair.now.right.now) in
+    let q : pair_svd a.clamp b.left b.mid b.right a.pair.now.gate.now a.pair.now.left.now a.pair.now.right.now ≡ ordered s.adjoint s.high s.wide (factored s.high s.wide a.clamp (matrix_for s.adjoint b.left b.right th)) =
+    rw e (pair_shape b.left b.right a.clamp b.mid a.pair.now.gate.now a.pair.now.left.now a.pair.now.right.now) in
     let fits : room s ≤ length (w ++ rest) = simp length-append (omega (arith, same)) in
     let some : 1 ≤ s.wide = rw e (omega (arith, shape_wide b.left b.right, p.le_left)) in
     record {
