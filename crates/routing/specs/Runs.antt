@@ -1,6 +1,6 @@
 -- A run by what is left of it: the swaps down to the near site, and then the gate.
-use Prim.Native.Nat.{ℕ, suc, ◌+◌, ◌-◌, ◌≤◌, ◌<◌, min, max}
-use Rattle.std.specs.Prelude.{◌≡◌, refl, Bool, true, false, cond, List, [], ◌∷◌, ◌++◌, map, eqb, ltb}
+use Prim.Native.Nat.{ℕ, zero, suc, ◌+◌, ◌-◌, ◌≤◌, ◌<◌, min, max}
+use Rattle.std.specs.Prelude.{◌≡◌, refl, Ok, Err, Bool, true, false, cond, List, [], ◌∷◌, ◌++◌, map, eqb, ltb}
 use Rattle.std.proofs.Math.Path.{sym, ap}
 use Rattle.std.proofs.Common.{◌∙◌, eq-eqb, ne_eqb, eqb-true}
 use native.Mathlib.Omega.{arith}
@@ -8,14 +8,24 @@ use Rattle.complex.specs.declared.Complex.{Complex}
 use Rattle.gates.specs.Gate.{swap_gate_qubits}
 use Rattle.gates.specs.Named.{matrix_of}
 use Rattle.gates.specs.declared.NamedGate.TheVariants.{Swap}
-use Rattle.model.specs.declared.Applied.{Applied}
-use Rattle.model.specs.declared.Applied.TheVariants as applied
+use Rattle.model.specs.Answers.{Answer, Applied, refusal_of}
 use Rattle.model.specs.declared.Reason.{Reason}
 use Rattle.model.specs.Chain.{site_of}
 use Rattle.model.specs.Slots.{State, held}
 use Rattle.model.specs.Cut.{Ran, ran, adjacent, adjacent_reason}
 use Rattle.model.specs.Routing.{Step, relabelled, down_to, swap_step, gate_step, follow, stepped, run_steps, gate_run, gate_reason}
 use Rattle.cuts.specs.Answered.{Answered, answered, answered_by, applied_refused, ran_refused, ran_done}
+
+-- the answer of a run of swaps beside the state that it leaves
+pub record Passed : Type 0 where
+  pub answer : Answer
+  pub state : State
+
+abbrev pub passed : Answer → State → Passed
+passed a s = record { answer = a; state = s }
+
+abbrev pub passed_by : Ran → Passed
+passed_by r = passed (refusal_of r.refused) r.state
 
 -- the swaps at near + n, .., near + 1
 unfoldable pub swaps_down : ℕ → ℕ → State → Ran
@@ -28,6 +38,29 @@ routed_gate gate near n s = run_steps (map swap_step (down_to near n) ++ (gate_s
 -- why its cut keeps as many values as it does
 unfoldable pub routed_reason : List (List Complex) → ℕ → ℕ → State → Reason
 routed_reason gate near n s = adjacent_reason gate near (swaps_down near n s).state
+
+-- ---- the run by its answer
+
+refusal_number : (k n : ℕ) → ◌≡◌ {A = Answer} (Err n) (refusal_of k) → (n ≡ k) × (n ≡ 0 → ⊥)
+refusal_number zero n e = let z : ◌≡◌ {A = ℕ} 0 1 = cc in absurd (omega arith)
+refusal_number (suc k) n e = let f : n ≡ suc k = cc in (f, λ z. omega arith)
+
+refusal_none : (k : ℕ) (x : Unit {0}) → ◌≡◌ {A = Answer} (Ok x) (refusal_of k) → 0 ≡ k
+refusal_none zero x e = refl
+refusal_none (suc k) x e = cc
+
+pub passed_refused : (r : Ran) (n : ℕ) (t : State) → passed (Err n) t ≡ passed_by r → (ran n t ≡ r) × (n ≡ 0 → ⊥)
+passed_refused r n t e = let x = refusal_number r.refused n (ap (λ (y : Passed). y.answer) e) in (λ i. ran (x.0 i) (e i).state, x.1)
+
+pub passed_on : (r : Ran) (x : Unit {0}) (t : State) → passed (Ok x) t ≡ passed_by r → ran 0 t ≡ r
+passed_on r x t e = λ i. ran (refusal_none r.refused x (ap (λ (y : Passed). y.answer) e) i) (e i).state
+
+pub refused_passed : (r : Ran) (n : ℕ) (t : State) → (n ≡ 0 → ⊥) → ran n t ≡ r → passed (Err n) t ≡ passed_by r
+refused_passed r zero t z e = absurd (z refl)
+refused_passed r (suc n) t z e = ap passed_by e
+
+pub on_passed : (r : Ran) (t : State) → ran 0 t ≡ r → passed (Ok tt) t ≡ passed_by r
+on_passed r t e = ap passed_by e
 
 -- ---- what follows a run
 
@@ -59,15 +92,15 @@ module _ (k : ℕ) (s : State) (a : Applied) (t : State) (reason : Reason) (e : 
   abbrev labelled : State → Ran
   labelled u = ran 0 (held (relabelled k u.chain) u.store)
 
-  pub step_out : (n : ℕ) → a ≡ applied.Refused n → ran n t ≡ stepped (swap_step k) s
+  pub step_out : (n : ℕ) → a ≡ Err n → passed (Err n) t ≡ passed_by (stepped (swap_step k) s)
   unfolding stepped
   step_out n f =
       let x = ran_refused reason (adjacent (matrix_of Swap) k s) n t (ap (λ (b : Applied). answered b t) (sym f) ∙ e) in
-      sym (ap (λ (r : Ran). follow r labelled) (sym x.0) ∙ follow_out (ran n t) labelled x.1)
+      refused_passed (stepped (swap_step k) s) n t x.1 (sym (ap (λ (r : Ran). follow r labelled) (sym x.0) ∙ follow_out (ran n t) labelled x.1))
 
-  pub step_on : (r : Reason) → a ≡ applied.Done r → labelled t ≡ stepped (swap_step k) s
+  pub step_on : (r : Reason) → a ≡ Ok r → passed (Ok tt) (labelled t).state ≡ passed_by (stepped (swap_step k) s)
   unfolding stepped
-  step_on r f = ap (λ (x : Ran). follow x labelled) (ran_done reason (adjacent (matrix_of Swap) k s) r t (ap (λ (b : Applied). answered b t) (sym f) ∙ e))
+  step_on r f = on_passed (stepped (swap_step k) s) (labelled t).state (ap (λ (x : Ran). follow x labelled) (ran_done reason (adjacent (matrix_of Swap) k s) r t (ap (λ (b : Applied). answered b t) (sym f) ∙ e)))
 
 -- ---- the swaps
 
@@ -115,7 +148,7 @@ module _ (gate : List (List Complex)) (near n : ℕ) (s : State) where
   abbrev routed_by : Answered
   routed_by = answered_by (routed_reason gate near n s) (routed_gate gate near n s)
 
-  pub gate_out : (x : Ran) → x ≡ swaps_down near n s → (x.refused ≡ 0 → ⊥) → answered (applied.Refused x.refused) x.state ≡ routed_by
+  pub gate_out : (x : Ran) → x ≡ swaps_down near n s → (x.refused ≡ 0 → ⊥) → answered (Err x.refused) x.state ≡ routed_by
   gate_out x e z =
       ap (λ (a : Applied). answered a x.state) (applied_refused (routed_reason gate near n s) x.refused z) ∙ ap (answered_by (routed_reason gate near n s)) (run_out x e z)
 

@@ -3,15 +3,12 @@
 
 ghost use Rattle.std.specs.Prelude.{◌≡◌, ◌≢◌, cond, ◌+◌, ◌-◌, ◌<◌, ltb};
 ghost use Rattle.gates.specs.Gate.{swap_gate_qubits};
-ghost use Rattle.model.specs.Chain.{site_of};
-ghost use Rattle.model.specs.Answers.{view_answer};
 ghost use Rattle.model.specs.Slots.{held};
-ghost use Rattle.model.specs.Cut.{ran};
 ghost use Rattle.model.specs.Routing.{relabelled, swap_step, stepped, gate_run, gate_reason};
 ghost use Rattle.model.specs.Statements.Soundness.{Sound};
 ghost use Rattle.moves.specs.Ready.{Ready};
 ghost use Rattle.cuts.specs.Answered.{answered, answered_by};
-ghost use Rattle.routing.specs.Runs.{swaps_down, routed_gate, routed_reason};
+ghost use Rattle.routing.specs.Runs.{passed, passed_by, swaps_down, routed_gate, routed_reason};
 
 use complex::Complex;
 use cuts::apply_adjacent_two_qubit;
@@ -38,7 +35,7 @@ fn swap_layout_labels(chain: &mut Chain, left_site: usize)
 fn swap_step(chain: &mut Chain, store: &mut [f64], work: &mut [f64], k: usize) -> Answer
     requires ready { Ready chain.old store.old work.old }
     requires k_bound { k + 1 < chain.old.num_qubits }
-    ensures { ran (view_answer result).number (held chain.new store.new) ≡ stepped (swap_step k) (held chain.old store.old) }
+    ensures { passed result (held chain.new store.new) ≡ passed_by (stepped (swap_step k) (held chain.old store.old)) }
 {
     let gate = NamedGate::Swap.matrix_4x4();
     let _reason = apply_adjacent_two_qubit(chain, store, work, gate, k)?;
@@ -56,7 +53,7 @@ fn route_swaps(
 ) -> Answer
     requires ready { Ready chain.old store.old work.old }
     requires near_lt_far { (near < far) × (far < chain.old.num_qubits) }
-    ensures { ran (view_answer result).number (held chain.new store.new) ≡ swaps_down near (far - (near + 1)) (held chain.old store.old) }
+    ensures { passed result (held chain.new store.new) ≡ passed_by (swaps_down near (far - (near + 1)) (held chain.old store.old)) }
 {
     for at in (near + 1..far).rev() {
         swap_step(chain, store, work, at)?;

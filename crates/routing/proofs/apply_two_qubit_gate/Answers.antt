@@ -3,4 +3,4 @@ use Rattle.routing.specs.Runs.{run_between}
 use Rattle.routing.proofs.apply_two_qubit_gate.Goals as goal
 
 pub returns : goal.returns
-returns c = c.route_gate.ensures ∙ run_between _ _ _ _ _ _ c.site_of-p.ensures c.site_of-q.ensures _ _ _ c.gate_between-turned.ensures c.smaller.ensures c.larger.ensures
+returns c = c.route_gate.ensures ∙ run_between _ _ _ _ _ _ c.from-p.ensures c.from-q.ensures _ _ _ c.gate_between-turned.ensures c.min.ensures c.max.ensures
