@@ -59,24 +59,9 @@ pub fn fresh_chain(n: usize, d: usize, epsilon: f64, clamp: f64, exponent: u8) -
 pub fn zero_chain() -> Chain
     ensures { result ≡ zero_chain }
 {
-    let zeros = [0u8; 64];
-    let bits = [false; 64];
-    let weights = [0.0; 63];
     Chain {
-        num_qubits: 0,
-        max_bond_dim: 0,
-        workspace_exponent: 0,
-        svd_epsilon: 0.0,
-        norm_clamp_min: 0.0,
-        bond_left: zeros,
-        bond_right: zeros,
-        logical_to_site: zeros,
-        site_to_logical: zeros,
-        classical_bits: bits,
-        center: None,
         bond_high_water: 0,
-        truncation_discarded: 0.0,
-        bond_discarded: weights,
+        ..fresh_chain(0, 0, 0.0, 0.0, 0)
     }
 }
 
