@@ -31,6 +31,7 @@ fn identity_labels(n: usize) -> [u8; 64]
     )
 }
 
+#[tactic(auto, unfolding(model::specs::Start::fresh_chain))]
 pub fn fresh_chain(n: usize, d: usize, epsilon: f64, clamp: f64, exponent: u8) -> Chain
     ensures { result ≡ fresh_chain n d epsilon clamp exponent }
 {
@@ -56,6 +57,7 @@ pub fn fresh_chain(n: usize, d: usize, epsilon: f64, clamp: f64, exponent: u8) -
     }
 }
 
+#[tactic(auto, unfolding(model::specs::Start::fresh_chain, model::specs::Start::zero_chain, complex::specs::Loops::tabulate))]
 pub fn zero_chain() -> Chain
     ensures { result ≡ zero_chain }
 {
@@ -68,6 +70,7 @@ pub fn zero_chain() -> Chain
 // ---- the store
 
 // A site's slot: the amplitudes 1 and 0, then +0.
+#[tactic(auto, using(crate::specs::Sites::site_filled))]
 fn fresh_site(slot: &mut [f64])
     requires { 4 ≤ length slot.old }
     ensures { slot.new ≡ filled (length slot.old) (one_f ∷ zero_f ∷ zero_f ∷ zero_f ∷ []) }
