@@ -1,24 +1,39 @@
--- An array of entries that calls of a closure gave, at 0, 1, 2, .. in turn: its answer at each place, where that hangs on the place alone.
-use denote.Param.Members.{Mut}
-use native.Mathlib.Omega.{arith}
-use Rattle.std.specs.Array.{IsFromFnResult, IsFromFnResultFrom}
-use Rattle.std.specs.Fn.{Called}
-use Rattle.std.specs.Prelude.{ℕ, zero, suc, ◌+◌, ◌<◌, ◌≡◌, List, get_or}
-use Rattle.std.proofs.Common.{◌∙◌, sym}
-use Rattle.std.proofs.lemmas.Grind.{same_number_lists}
-use Rattle.complex.specs.Loops.{tabulate, length_tabulate, get_d_tabulate}
+-- An array of 64 entries written from the front: f i at each place i below n, 0 past them.
+use Rattle.std.specs.Prelude.{ℕ, ◌+◌, ◌≤◌, ◌<◌, ◌≡◌, cond, List, [], ◌∷◌, ◌++◌, ltb, set, drop, replicate}
+use Rattle.std.proofs.Math.Path.{refl}
+use Rattle.std.proofs.Common.{sym, ap, ◌∙◌, add-one, lt-ltb, le-ltb}
+use Rattle.complex.specs.Loops.{tabulate, length_tabulate}
+use Rattle.complex.specs.Parts.{front_more, front_all}
+use Rattle.model.specs.Start.{up_to}
 
-module _ {F : Type 0} (g : Mut F (ℕ × Unit {0}) ℕ) (v : ℕ → ℕ) (f : F) (gives : (i y : ℕ) (q : F) → Called g f (i, tt) y q → (y ≡ v i) × (q ≡ f)) where
-  entry : (ys : List ℕ) (i n : ℕ) → IsFromFnResultFrom g f ys i n → (k : ℕ) → k < n → get_or ys (i + k) 0 ≡ v (i + k)
-  entry ys i zero h k l = absurd (omega arith)
-  entry ys i (suc n) h zero l =
-      let e : i + 0 ≡ i = omega arith in
-      rw e (h.2.1 0 ∙ (gives i h.1 h.0 h.3).0)
-  entry ys i (suc n) h (suc k) l =
-      let e : i + suc k ≡ i + 1 + k = omega arith in
-      rw e (entry ys (i + 1) n (rw (gives i h.1 h.0 h.3).1 at h.4) k (omega arith))
+tabulate_more : {A : Type 0} (n : ℕ) (f : ℕ → A) → tabulate (n + 1) f ≡ tabulate n f ++ (f n ∷ [])
+unfolding tabulate
+tabulate_more n f = rw add-one
 
-  pub given : (ys : List ℕ) (n : ℕ) → IsFromFnResult g f ys n → ys ≡ tabulate n v
-  given ys n h =
-      same_number_lists ys (tabulate n v) (h.long ∙ sym (length_tabulate n v))
-      (λ k l. let z : 0 + k ≡ k = omega arith in let e : get_or ys (0 + k) 0 ≡ v (0 + k) = entry ys 0 n h.each k (omega (arith, h.long)) in (rw z at e) ∙ sym (get_d_tabulate n v 0 k (omega (arith, h.long))))
+module _ (n : ℕ) (f : ℕ → ℕ) where
+  -- the entry at i
+  abbrev pub entry : ℕ → ℕ
+  entry i = cond (ltb i n) (f i) 0
+
+  -- the first i entries stand in out, which began as 64 zeros
+  abbrev pub Written : ℕ → List ℕ → Type 0
+  Written i out = out ≡ tabulate i entry ++ drop i (replicate 64 0)
+
+  pub none_written : Written 0 (replicate 64 0)
+  unfolding tabulate
+  none_written = refl
+
+  -- what the two branches of the test i < n write
+  pub entry_below : (i v : ℕ) → i < n → v ≡ f i → v ≡ entry i
+  entry_below i v l e = rw (lt-ltb i n l) e
+
+  pub entry_past : (i v : ℕ) → n ≤ i → v ≡ 0 → v ≡ entry i
+  entry_past i v l e = rw (le-ltb i n l) e
+
+  pub more_written : (out : List ℕ) (i v : ℕ) → i < 64 → v ≡ entry i → Written i out → Written (i + 1) (set out i v)
+  more_written out i v l e w =
+      rw (w, e) (front_more i (tabulate i entry) (replicate 64 0) (entry i) (length_tabulate i entry) l
+      ∙ ap (λ (xs : List ℕ). xs ++ drop (i + 1) (replicate 64 0)) (sym (tabulate_more i entry)))
+
+  pub all_written : (out : List ℕ) → Written 64 out → out ≡ up_to n f
+  all_written out w = w ∙ front_all 64 (tabulate 64 entry) (replicate 64 0) refl

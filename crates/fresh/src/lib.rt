@@ -31,6 +31,7 @@ fn identity_labels(n: usize) -> [u8; 64]
     )
 }
 
+#[tactic(auto, unfolding(model::specs::Start::fresh_chain))]
 pub fn fresh_chain(n: usize, d: usize, epsilon: f64, clamp: f64, exponent: u8) -> Chain
     ensures { result ≡ fresh_chain n d epsilon clamp exponent }
 {
@@ -56,33 +57,20 @@ pub fn fresh_chain(n: usize, d: usize, epsilon: f64, clamp: f64, exponent: u8) -
     }
 }
 
+#[tactic(auto, unfolding(model::specs::Start::fresh_chain, model::specs::Start::zero_chain, complex::specs::Loops::tabulate))]
 pub fn zero_chain() -> Chain
     ensures { result ≡ zero_chain }
 {
-    let zeros = [0u8; 64];
-    let bits = [false; 64];
-    let weights = [0.0; 63];
     Chain {
-        num_qubits: 0,
-        max_bond_dim: 0,
-        workspace_exponent: 0,
-        svd_epsilon: 0.0,
-        norm_clamp_min: 0.0,
-        bond_left: zeros,
-        bond_right: zeros,
-        logical_to_site: zeros,
-        site_to_logical: zeros,
-        classical_bits: bits,
-        center: None,
         bond_high_water: 0,
-        truncation_discarded: 0.0,
-        bond_discarded: weights,
+        ..fresh_chain(0, 0, 0.0, 0.0, 0)
     }
 }
 
 // ---- the store
 
 // A site's slot: the amplitudes 1 and 0, then +0.
+#[tactic(auto, using(crate::specs::Sites::site_filled))]
 fn fresh_site(slot: &mut [f64])
     requires { 4 ≤ length slot.old }
     ensures { slot.new ≡ filled (length slot.old) (one_f ∷ zero_f ∷ zero_f ∷ zero_f ∷ []) }

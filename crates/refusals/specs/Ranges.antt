@@ -1,6 +1,6 @@
 -- The ranges of the number of qubits and of the cap, as settings that fit and as a sound record give them, and what they bound.
-use Rattle.std.specs.Prelude.{ℕ, ◌*◌, ◌≤◌, ◌≡◌, false, not, T, Float}
-use Rattle.std.proofs.Common.{mul-le-mul, arith}
+use Rattle.std.specs.Prelude.{ℕ, ◌*◌, ◌≤◌, ◌≡◌, Bool, true, false, not, T, Float}
+use Rattle.std.proofs.Common.{ap, sym, ◌∙◌, mul-le-mul, arith}
 use Rattle.std.proofs.lemmas.Bool.{not-false}
 use Rattle.model.specs.declared.Chain.{Chain}
 use Rattle.model.specs.Sound.{settings_fit, sound}
@@ -21,6 +21,13 @@ sound_ranges c e =
     let t : T (sound c) = rw (not-false (sound c) e) tt in
     let h = (sound_facts c t).settings in
     (h.qubits.1, h.cap.1)
+
+-- the same where a test passed, whose result is `fits`
+pub settings_passed : (n d : ℕ) (epsilon clamp : Float) (exponent : ℕ) (fits : Bool) → fits ≡ settings_fit n d epsilon clamp exponent → fits ≡ true → Ranges n d
+settings_passed n d epsilon clamp exponent fits e t = settings_ranges n d epsilon clamp exponent (ap not (sym e ∙ t))
+
+pub sound_passed : (c : Chain) (fits : Bool) → fits ≡ sound c → fits ≡ true → Ranges c.num_qubits c.max_bond_dim
+sound_passed c fits e t = sound_ranges c (ap not (sym e ∙ t))
 
 -- the products that room is made of
 pub square_most : (d : ℕ) → d ≤ 128 → d * d ≤ 16384

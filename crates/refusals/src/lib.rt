@@ -54,6 +54,7 @@ fn first_of(short: bool, outside: bool, improper: bool) -> Answer
 }
 
 // Of start, with a store of this length.
+#[tactic(auto, using(crate::specs::Ranges::settings_passed))]
 pub fn start_refusal(
     n: usize,
     d: usize,
@@ -75,6 +76,7 @@ pub fn start_refusal(
 }
 
 // Of a call that may write the chain, with a store and a work slice of these lengths.
+#[tactic(auto, using(crate::specs::Ranges::sound_passed))]
 pub fn call_refusal(
     chain: &Chain,
     store: usize,
@@ -92,6 +94,7 @@ pub fn call_refusal(
 }
 
 // Of an environment walk, with a result slice of length `out` too.
+#[tactic(auto, using(crate::specs::Ranges::sound_passed))]
 pub fn walk_refusal(chain: &Chain, store: usize, work: usize, out: usize, outside: bool) -> Answer
     ensures { result ≡ refusal_of (first_of (not (sound chain.now)) (ltb store (store_room chain.now.num_qubits chain.now.max_bond_dim) || ltb work (work_room chain.now.max_bond_dim) || ltb out (env_room chain.now.max_bond_dim)) outside false) }
 {

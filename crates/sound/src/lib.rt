@@ -31,6 +31,7 @@ pub fn settings_fit(n: usize, d: usize, epsilon: f64, clamp: f64, exponent: u8) 
 }
 
 // Whether the entries from n on are 0. This loop and those below leave no entry out, so that many are compared at once.
+#[tactic(auto, using(complex::specs::Loops::every_none, complex::specs::Loops::every_more))]
 fn zeros_from(xs: &[u8; 64], n: usize) -> bool
     requires { n ≤ 64 }
     ensures { result ≡ every 64 (λ i. ltb i n || eqb (get_or xs.now i 0) 0) }
@@ -44,6 +45,7 @@ fn zeros_from(xs: &[u8; 64], n: usize) -> bool
 
 // Whether every bond of the chain is from 1 to high, and the entries past the chain are 0. High is a
 // byte as a bond is, so that many bonds are compared at once.
+#[tactic(auto, using(complex::specs::Loops::every_none, complex::specs::Loops::every_more))]
 fn bonds_within(bonds: &[u8; 64], n: usize, high: u8) -> bool
     requires { n ≤ 64 }
     ensures { result ≡ every 64 (entry_fits n bonds.now (within 1 high)) }
@@ -56,6 +58,7 @@ fn bonds_within(bonds: &[u8; 64], n: usize, high: u8) -> bool
 }
 
 // Whether each site's right bond is the left bond of its neighbour.
+#[tactic(auto, using(complex::specs::Loops::every_none, complex::specs::Loops::every_more))]
 fn neighbours_agree<'a>(right: &'a [u8; 64], left: &'a [u8; 64], n: usize) -> bool
     requires { (1 ≤ n) × (n ≤ 64) }
     ensures { result ≡ every 63 (λ i. leb n (i + 1) || eqb (get_or right.now i 0) (get_or left.now (i + 1) 0)) }
@@ -89,6 +92,7 @@ fn comes_back(back: &[u8; 64], n: usize, s: usize, i: usize) -> bool
 }
 
 // Whether `there` goes from below n to below n, and `back` comes back from it.
+#[tactic(auto, using(complex::specs::Loops::every_none, complex::specs::Loops::every_more))]
 fn is_undone<'a>(there: &'a [u8; 64], back: &'a [u8; 64], n: usize) -> bool
     requires { n ≤ 64 }
     ensures { result ≡ undoes n there.now back.now }
@@ -111,6 +115,7 @@ fn center_fits(center: Option<usize>, n: usize) -> bool
 }
 
 // Whether the weights discarded past the last bond are +0, by their bits.
+#[tactic(auto, using(complex::specs::Loops::every_none, complex::specs::Loops::every_more))]
 fn discarded_fits(bond_discarded: &[f64; 63], n: usize) -> bool
     requires { (1 ≤ n) × (n ≤ 64) }
     ensures { result ≡ discarded_fits n bond_discarded.now }

@@ -1,6 +1,6 @@
 use borrow.Author.Rules.{rules}
 use Rattle.std.specs.Prelude.{cond, ltb}
-use Rattle.fresh.specs.Entries.{given}
+use Rattle.fresh.specs.Given.{given}
 use Rattle.fresh.proofs.unit_bonds.Goals as goal
 
 pub returns : goal.returns

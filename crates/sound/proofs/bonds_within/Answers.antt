@@ -1,14 +1,7 @@
 use Rattle.std.proofs.Common.{◌∙◌, sym, le_antisymm}
-use Rattle.complex.specs.Loops.{every_none, every_more}
 use Rattle.model.specs.Sound.{within}
 use Rattle.sound.specs.First.{every_taken, every_parted}
 use Rattle.sound.proofs.bonds_within.Goals as goal
-
-pub loop-x-init : goal.loop-x-init
-loop-x-init c = rw every_none
-
-pub loop-x-preserved : goal.loop-x-preserved
-loop-x-preserved c = rw (every_more, c.loop-x.invariant)
 
 pub returns : goal.returns
 returns c = let a = c.args in

@@ -2,16 +2,9 @@ use native.Mathlib.Omega.{arith}
 use Rattle.std.proofs.Common.{◌∙◌, ◌+◌, ◌-◌, ltb, eqb, lt-ltb, le-ltb, le_antisymm}
 use Rattle.std.specs.Float.{nan, binary64}
 use Rattle.std.specs.Float.Ieee.{to_bits}
-use Rattle.complex.specs.Loops.{every_none, every_more}
 use Rattle.model.specs.Sound.{discarded_fits}
 use Rattle.sound.specs.First.{every_dropped}
 use Rattle.sound.proofs.discarded_fits.Goals as goal
-
-pub loop-x-init : goal.loop-x-init
-loop-x-init c = rw every_none
-
-pub loop-x-preserved : goal.loop-x-preserved
-loop-x-preserved c = rw (every_more, c.loop-x.invariant, c.to_bits.ensures)
 
 pub returns : goal.returns
 unfolding discarded_fits

@@ -1,14 +1,7 @@
 use Rattle.std.proofs.Common.{◌∙◌, sym, ◌&&◌, ltb, eqb, get_or, le_antisymm}
-use Rattle.complex.specs.Loops.{every_none, every_more}
 use Rattle.model.specs.Sound.{undoes}
 use Rattle.sound.specs.First.{every_taken, every_parted}
 use Rattle.sound.proofs.is_undone.Goals as goal
-
-pub loop-i-init : goal.loop-i-init
-loop-i-init c = rw every_none
-
-pub loop-i-preserved : goal.loop-i-preserved
-loop-i-preserved c = rw (every_more, c.comes_back-ok.ensures, c.from.ensures, c.loop-i.invariant)
 
 pub returns : goal.returns
 unfolding undoes

@@ -1,13 +1,6 @@
 use Rattle.std.proofs.Common.{◌∙◌, ltb, eqb, lt-ltb, le-ltb, le_antisymm}
-use Rattle.complex.specs.Loops.{every_none, every_more}
 use Rattle.sound.specs.First.{every_dropped}
 use Rattle.sound.proofs.zeros_from.Goals as goal
-
-pub loop-x-init : goal.loop-x-init
-loop-x-init c = rw every_none
-
-pub loop-x-preserved : goal.loop-x-preserved
-loop-x-preserved c = rw (every_more, c.loop-x.invariant)
 
 pub returns : goal.returns
 returns c = let n = c.args.n in
