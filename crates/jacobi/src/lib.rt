@@ -115,6 +115,7 @@ struct Turn {
 }
 
 impl Turn {
+    #[tactic(auto, unfolding(model::specs::Jacobi::rotated_p, model::specs::Jacobi::rotated_q))]
     fn of(t: Rotation) -> Turn
         ensures { Turns result t }
     {
@@ -205,6 +206,7 @@ fn sweep(w: &mut [f64], high: usize, wide: usize) -> bool
 }
 
 // At most 100 sweeps; one without a rotation is the last.
+#[tactic(auto, using(crate::proofs::Turns::sweeps_done, crate::proofs::Turns::sweeps_on))]
 pub fn sweeps(w: &mut [f64], high: usize, wide: usize)
     requires { wide * high + wide * wide ≤ count w.old }
     ensures { w.new ≡ jacobi.sweeps high wide 100 w.old }

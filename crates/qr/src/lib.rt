@@ -1,6 +1,7 @@
 // The thin QR factoring of a gauge move, by modified Gram-Schmidt with reorthogonalisation, in place. The slice holds, in
 // numbers, a matrix of `high` rows and `wide` columns, by columns, from 0 on, whose first columns become q; and r, by rows,
-// from wide * high on.
+// from wide * high on. The sizes are passed as numbers, since the definitions take them so: a struct makes no contract
+// shorter.
 #![tactic(auto, using(complex::specs::Loops::each_none, complex::specs::Loops::each_more, complex::specs::Loops::between_none, complex::specs::Loops::between_more), unfolding(model::specs::Qr::term, model::specs::Qr::dot, model::specs::Qr::taken_away, model::specs::Qr::projected_on, model::specs::Qr::pass_of, model::specs::Qr::kept_of, model::specs::Qr::raised))]
 
 ghost use Rattle.std.specs.Prelude.{◌≡◌, ◌+◌, ◌*◌, ◌<◌, ◌≤◌, [], ◌∷◌, min, max, length, take};
@@ -144,7 +145,8 @@ fn raise(w: &mut [f64], high: usize, rank: usize) -> usize
     rank
 }
 
-// The factoring of the matrix that w begins with; the rest of w is room for r. Answers how many columns q has.
+// The factoring of the matrix that w begins with; the rest of w is room for r. Answers how many columns q has. A column's
+// passes are a loop that breaks with the residual, which is a rule of the project (tests/checks.py).
 pub fn factorize_gram_schmidt(w: &mut [f64], high: usize, wide: usize) -> usize
     requires { (0 < high) × (0 < wide) × (length w.old ≡ 2 * (wide * high + min high wide * wide)) }
     ensures w_after { qr.kept result w.new ≡ qr.qr high wide (take (2 * (wide * high)) w.old) }

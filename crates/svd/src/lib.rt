@@ -99,7 +99,8 @@ fn place_of(w: &[f64], base: usize, n: usize, j: usize) -> usize
 }
 
 // The columns in the order of the n values from base on: downward, equal ones by lower column first. Each is put where the
-// count of those before it says, as the order is defined; no sort of the library is stable and without an allocation.
+// count of those before it says, as the order is defined: the library's stable sorts allocate, which is against a rule of
+// the project.
 fn sort_columns(w: &[f64], base: usize, n: usize) -> [u8; 256]
     requires { (n ≤ 256) × (base + n ≤ count w.now) }
     ensures { result ≡ order_of n (λ k. (at w.now (base + k)).re) }

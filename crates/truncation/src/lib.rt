@@ -1,5 +1,5 @@
 // What a cut keeps of its singular values, given in order, why so many, and the share of the weight that it drops.
-#![tactic(auto, using(complex::specs::Loops::each_none), unfolding(model::specs::Truncation::resolvable, model::specs::Truncation::share))]
+#![tactic(auto)]
 
 ghost use Rattle.std.specs.Prelude.{◌≡◌, ◌≤◌, length, get_or};
 ghost use Rattle.std.specs.Float.Ieee.{lt};
@@ -63,6 +63,7 @@ pub fn truncated_svd_rank(s: &[f64], epsilon: f64, max_bond_dim: usize) -> Ranke
 }
 
 // Whether keeping chi values drops one above the resolution times the first.
+#[tactic(auto, unfolding(model::specs::Truncation::resolvable))]
 pub fn discards_resolvable_weight(s: &[f64], chi: usize) -> bool
     ensures { result ≡ resolvable s.now chi }
 {
@@ -70,6 +71,7 @@ pub fn discards_resolvable_weight(s: &[f64], chi: usize) -> bool
 }
 
 // The squares of the values from place `from` on, summed.
+#[tactic(auto, using(complex::specs::Loops::each_none))]
 fn sum_squares_from(s: &[f64], from: usize) -> f64
     requires { from ≤ length s.now }
     ensures { result ≡ squares_from from s.now }
@@ -82,6 +84,7 @@ fn sum_squares_from(s: &[f64], from: usize) -> f64
 }
 
 // The share that keeping chi_kept values drops; nothing where none is dropped or the total is at most 0.
+#[tactic(auto, unfolding(model::specs::Truncation::share))]
 pub fn discarded_share(s: &[f64], chi_kept: usize) -> Option<f64>
     ensures { shares_of result ≡ share s.now chi_kept }
 {
