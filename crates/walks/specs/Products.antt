@@ -10,13 +10,6 @@ use Rattle.model.specs.Environment.{Env, few}
 abbrev pub env_of : ℕ → List Float → Env
 env_of dim entries = record { dim = dim; entries = entries }
 
--- the amplitude at left index a, bit i and right index b is one of the site's
-pub record InSite (br a i b : ℕ) (site : List Float) : Type 0 where
-  pub narrow : br ≤ 128
-  pub bit : i ≤ 1
-  pub column : b < br
-  pub row : a * (2 * br) + 2 * br ≤ count site
-
 -- z plus e x, unless e is zero
 unfoldable pub plus_unless_zero : Complex → Complex → Complex → Complex
 plus_unless_zero e x z = cond (is_zero e) z (add_c z (mul_c e x))
