@@ -1,5 +1,5 @@
 -- Rows that fill a slot leave nothing of it to clear.
-use Rattle.std.specs.Prelude.{◌≡◌, List, ◌++◌, ℕ, ◌*◌, ◌-◌, length, replicate}
+use Rattle.std.specs.Prelude.{◌≡◌, ◌++◌, ℕ, ◌*◌, ◌-◌, length, replicate}
 use Rattle.std.proofs.Common.{ap, ◌∙◌, arith}
 use mathlib.Core.List.{append-nil}
 use Rattle.complex.specs.Complex.{zero_f}

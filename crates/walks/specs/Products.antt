@@ -1,8 +1,8 @@
 -- The sums of a step over flat indices, in the order of the model's sums. The list `front` holds the environment and, from number `mid` on, the inner sums.
-use Rattle.std.specs.Prelude.{ℕ, ◌+◌, ◌*◌, ◌/◌, ◌%◌, ◌≤◌, ◌<◌, cond, List, Float}
+use Rattle.std.specs.Prelude.{ℕ, ◌+◌, ◌*◌, ◌/◌, ◌%◌, cond, List, Float}
 use Rattle.complex.specs.Complex.{add_c, mul_c, conj_c, is_zero, zero_c}
 use Rattle.complex.specs.Loops.{each, sum_c}
-use Rattle.complex.specs.Numbers.{count, at}
+use Rattle.complex.specs.Numbers.{at}
 use Rattle.complex.specs.declared.Complex.{Complex}
 use Rattle.model.specs.Slots.{amplitude}
 use Rattle.model.specs.Environment.{Env, few}

@@ -1,16 +1,11 @@
-use mathlib.Core.Path.{◌∙◌}
 use Prim.Native.Nat.{◌+◌, ◌*◌}
 use native.Mathlib.Nat.{le_antisymm, mul-le-mul_right}
 use native.Mathlib.Omega.{arith}
-use Rattle.complex.specs.Parts.{length_part}
 use Rattle.born.specs.Kept.{kept_none, kept_more, kept_length}
 use Rattle.born.proofs.keep_rows.Goals as goal
 
 pub loop-a-init : goal.loop-a-init
 loop-a-init c = (omega arith, omega arith, kept_none _ _ _ _ _)
-
-pub keep_row-requires : goal.keep_row-requires
-keep_row-requires c = let m = mul-le-mul_right (4 * c.args.br) c.loop-a-test.true in length_part (c.loop-a.a * (4 * c.args.br)) (c.loop-a.a * (4 * c.args.br) + 4 * c.args.br) c.loop-a.slot (omega arith) (omega arith) ∙ omega arith
 
 pub loop-a-preserved : goal.loop-a-preserved
 loop-a-preserved c = let m = mul-le-mul_right (4 * c.args.br) c.loop-a-test.true in

@@ -1,5 +1,4 @@
-use Prim.Native.Nat.{◌*◌}
-use native.Mathlib.Nat.{le_antisymm, mul-le-mul_right}
+use native.Mathlib.Nat.{le_antisymm}
 use native.Mathlib.Omega.{arith}
 use Rattle.complex.specs.Loops.{each_none, each_more}
 use Rattle.model.specs.Born.{weight}

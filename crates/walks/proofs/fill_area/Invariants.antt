@@ -1,6 +1,6 @@
 -- The invariant: the area has its first k numbers, whatever they are, and what lies before it is as it was.
 use mathlib.Core.Path.{◌≡◌}
-use Prim.Native.Nat.{ℕ, ◌≤◌, ◌<◌, ◌+◌, ◌*◌, ◌/◌, ◌%◌}
+use Prim.Native.Nat.{ℕ, ◌≤◌, ◌<◌, ◌+◌, ◌/◌, ◌%◌}
 use lib.ListN.{length, take}
 use lib.Ieee.{Float}
 use mathlib.Core.List.{List}
