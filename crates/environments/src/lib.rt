@@ -9,7 +9,7 @@ ghost use Rattle.walks.specs.Products.{env_of};
 ghost use Rattle.environments.specs.Walk.{Walkable, Crossing};
 
 use model::Chain;
-use walks::{identity, left_across, right_across};
+use walks::{Site, identity, left_across, right_across};
 
 // ---- the left environment
 
@@ -21,7 +21,12 @@ fn left_step(store: &[f64], work: &mut [f64], d: usize, k: usize, bl: usize, br:
     let slot = 4 * d * d;
     let a = k * slot;
     let e = a + slot;
-    left_across(&store[a..e], work, bl, br);
+    let site = Site {
+        numbers: &store[a..e],
+        left: bl,
+        right: br,
+    };
+    left_across(site, work);
 }
 
 // The left environment of a site, the sites from `from` on contracted: its dimension.
@@ -59,7 +64,12 @@ fn right_step(store: &[f64], work: &mut [f64], d: usize, k: usize, bl: usize, br
     let slot = 4 * d * d;
     let a = k * slot;
     let e = a + slot;
-    right_across(&store[a..e], work, bl, br);
+    let site = Site {
+        numbers: &store[a..e],
+        left: bl,
+        right: br,
+    };
+    right_across(site, work);
 }
 
 // The right environment of a site, the sites from `to` back to the next one contracted: its dimension.

@@ -65,7 +65,12 @@ fn fill_row<F: Fn(usize, usize) -> Complex>(out: &mut [f64], number: &F, r: usiz
 }
 
 // The rows of a matrix, one after the other: number c of row r is number(r, c).
-pub fn fill_rows<F: Fn(usize, usize) -> Complex>(slot: &mut [f64], high: usize, wide: usize, number: F)
+pub fn fill_rows<F: Fn(usize, usize) -> Complex>(
+    slot: &mut [f64],
+    high: usize,
+    wide: usize,
+    number: F,
+)
     requires { (high ≤ 256) × (wide ≤ 256) × (2 * (high * wide) ≤ length slot.old) × ((r c : ℕ) → r < high → c < wide → F.pre number r c) }
     ensures { (f : ℕ → ℕ → _) → ((r c : ℕ) (z : _) → r < high → c < wide → F.post number r c z → z ≡ f r c) → slot.new ≡ filled (length slot.old) (rows high (λ r. numbers wide (f r))) }
 {

@@ -151,7 +151,8 @@ impl<'a> Neighbours<'a> {
         for a in 0..bl {
             let t = self.block(a, b);
             if ADJOINT {
-                t.conj().store(out, a * 2 * (2 * br) + b, 2 * br, br);
+                let u = t.conj();
+                u.store(out, a * 2 * (2 * br) + b, 2 * br, br);
             } else {
                 t.store(out, b * (2 * bl) + a * 2, 1, br * (2 * bl));
             }

@@ -1,21 +1,14 @@
 -- The sums of a step over flat indices, in the order of the model's sums. The list `front` holds the environment and, from number `mid` on, the inner sums.
-use Rattle.std.specs.Prelude.{ℕ, ◌+◌, ◌*◌, ◌/◌, ◌%◌, ◌≤◌, ◌<◌, cond, List, Float}
+use Rattle.std.specs.Prelude.{ℕ, ◌+◌, ◌*◌, ◌/◌, ◌%◌, cond, List, Float}
 use Rattle.complex.specs.Complex.{add_c, mul_c, conj_c, is_zero, zero_c}
 use Rattle.complex.specs.Loops.{each, sum_c}
-use Rattle.complex.specs.Numbers.{count, at}
+use Rattle.complex.specs.Numbers.{at}
 use Rattle.complex.specs.declared.Complex.{Complex}
 use Rattle.model.specs.Slots.{amplitude}
 use Rattle.model.specs.Environment.{Env, few}
 
 abbrev pub env_of : ℕ → List Float → Env
 env_of dim entries = record { dim = dim; entries = entries }
-
--- the amplitude at left index a, bit i and right index b is one of the site's
-pub record InSite (br a i b : ℕ) (site : List Float) : Type 0 where
-  pub narrow : br ≤ 128
-  pub bit : i ≤ 1
-  pub column : b < br
-  pub row : a * (2 * br) + 2 * br ≤ count site
 
 -- z plus e x, unless e is zero
 unfoldable pub plus_unless_zero : Complex → Complex → Complex → Complex

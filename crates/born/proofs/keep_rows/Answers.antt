@@ -1,40 +1,11 @@
-use mathlib.Core.Path.{◌∙◌}
 use Prim.Native.Nat.{◌+◌, ◌*◌}
 use native.Mathlib.Nat.{le_antisymm, mul-le-mul_right}
 use native.Mathlib.Omega.{arith}
-use Rattle.complex.specs.Parts.{length_part}
 use Rattle.born.specs.Kept.{kept_none, kept_more, kept_length}
 use Rattle.born.proofs.keep_rows.Goals as goal
 
 pub loop-a-init : goal.loop-a-init
 loop-a-init c = (omega arith, omega arith, kept_none _ _ _ _ _)
-
-pub overflow_mul-s : goal.overflow_mul-s
-overflow_mul-s c = omega (arith, mul-le-mul_right (4 * c.args.br) c.loop-a-test.true)
-
-pub overflow_mul-s-in-loop-a : goal.overflow_mul-s-in-loop-a
-overflow_mul-s-in-loop-a c = omega (arith, mul-le-mul_right (4 * c.args.br) c.loop-a-test.true)
-
-pub overflow_mul-e : goal.overflow_mul-e
-overflow_mul-e c = omega (arith, mul-le-mul_right (4 * c.args.br) c.loop-a-test.true)
-
-pub overflow_add-e : goal.overflow_add-e
-overflow_add-e c = omega (arith, mul-le-mul_right (4 * c.args.br) c.loop-a-test.true)
-
-pub offset_bounds-slot-s : goal.offset_bounds-slot-s
-offset_bounds-slot-s c = omega (arith, mul-le-mul_right (4 * c.args.br) c.loop-a-test.true)
-
-pub slice_bounds-keep_row-count : goal.slice_bounds-keep_row-count
-slice_bounds-keep_row-count c = omega (arith, mul-le-mul_right (4 * c.args.br) c.loop-a-test.true)
-
-pub slice_bounds-keep_row-start : goal.slice_bounds-keep_row-start
-slice_bounds-keep_row-start c = omega (arith, mul-le-mul_right (4 * c.args.br) c.loop-a-test.true)
-
-pub slice_bounds-keep_row-end : goal.slice_bounds-keep_row-end
-slice_bounds-keep_row-end c = omega (arith, mul-le-mul_right (4 * c.args.br) c.loop-a-test.true)
-
-pub keep_row-requires : goal.keep_row-requires
-keep_row-requires c = let m = mul-le-mul_right (4 * c.args.br) c.loop-a-test.true in length_part (c.loop-a.a * (4 * c.args.br)) (c.loop-a.a * (4 * c.args.br) + 4 * c.args.br) c.loop-a.slot (omega arith) (omega arith) ∙ omega arith
 
 pub loop-a-preserved : goal.loop-a-preserved
 loop-a-preserved c = let m = mul-le-mul_right (4 * c.args.br) c.loop-a-test.true in

@@ -3,7 +3,7 @@ use Rattle.outcomes.specs.Placed.{centered_placed}
 use Rattle.outcomes.proofs.project_z_outcome.Goals as goal
 
 pub born_weights-both-requires : goal.born_weights-both-requires
-born_weights-both-requires c = let a = c.args in centered_placed a.k a.chain c.center_on-at.result a.store.now c.center_on-at.new.store a.work.now c.requires.ready c.requires.k_bound c.center_on-at.ensures
+born_weights-both-requires c = let a = c.args in centered_placed a.k a.chain.now c.center_on.new.chain a.store.now c.center_on.new.store a.work.now c.requires.ready c.requires.k_bound c.center_on.ensures
 
 pub project_site_outcome-requires-clause-placed : goal.project_site_outcome-requires-clause-placed
-project_site_outcome-requires-clause-placed c = let a = c.args in centered_placed a.k a.chain c.center_on-at.result a.store.now c.center_on-at.new.store a.work.now c.requires.ready c.requires.k_bound c.center_on-at.ensures
+project_site_outcome-requires-clause-placed c = let a = c.args in centered_placed a.k a.chain.now c.center_on.new.chain a.store.now c.center_on.new.store a.work.now c.requires.ready c.requires.k_bound c.center_on.ensures

@@ -8,4 +8,4 @@ use Rattle.walks.specs.Products.{cell_left}
 use Rattle.walks.proofs.left_few.Given as goal
 
 abbrev pub invariant-loop-k : goal.invariant-loop-k
-invariant-loop-k l = (l.k ≤ l.n) × (l.acc ≡ each l.k (λ k. cell_left l.br l.site (k / l.bl) (k % l.bl) l.g l.g1 (at l.env k)) zero_c)
+invariant-loop-k l = (l.k ≤ l.n) × (l.acc ≡ each l.k (λ k. cell_left l.site.right l.site.numbers.now (k / l.site.left) (k % l.site.left) l.g l.g1 (at l.env k)) zero_c)

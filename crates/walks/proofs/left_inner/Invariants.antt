@@ -8,4 +8,4 @@ use Rattle.walks.specs.Products.{plus_unless_zero}
 use Rattle.walks.proofs.left_inner.Given as goal
 
 abbrev pub invariant-loop-a : goal.invariant-loop-a
-invariant-loop-a l = (l.a ≤ l.bl) × (l.acc ≡ each l.a (λ a. plus_unless_zero (at l.env (a * l.bl + l.a1)) (at l.site (a * (2 * l.br) + l.c))) zero_c)
+invariant-loop-a l = (l.a ≤ l.site.left) × (l.acc ≡ each l.a (λ a. plus_unless_zero (at l.env (a * l.site.left + l.a1)) (at l.site.numbers.now (a * (2 * l.site.right) + l.c))) zero_c)

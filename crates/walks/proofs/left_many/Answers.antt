@@ -8,10 +8,10 @@ pub loop-r-init : goal.loop-r-init
 loop-r-init c = (omega arith, rw each_none)
 
 pub complex_at-x-requires : goal.complex_at-x-requires
-complex_at-x-requires c = omega (arith, mul-le-mul_right c.args.br c.loop-r-test.true)
+complex_at-x-requires c = omega (arith, mul-le-mul_right c.args.site.right c.loop-r-test.true)
 
 pub complex_at-requires : goal.complex_at-requires
-complex_at-requires c = omega (arith, mul-le-mul_right c.args.br c.loop-r-test.true)
+complex_at-requires c = omega (arith, mul-le-mul_right c.args.site.right c.loop-r-test.true)
 
 pub loop-r-preserved : goal.loop-r-preserved
 loop-r-preserved c = (omega arith, rw (each_more, c.plus_unless_zero-acc.ensures, c.conj.ensures, c.complex_at-x.ensures, c.complex_at.ensures, c.loop-r.invariant.1))

@@ -8,4 +8,4 @@ use Rattle.walks.specs.Products.{cell_right}
 use Rattle.walks.proofs.right_few.Given as goal
 
 abbrev pub invariant-loop-k : goal.invariant-loop-k
-invariant-loop-k l = (l.k ≤ l.n) × (l.acc ≡ each l.k (λ k. cell_right l.br l.site l.a l.a1 (k / l.br) (k % l.br) (at l.env k)) zero_c)
+invariant-loop-k l = (l.k ≤ l.n) × (l.acc ≡ each l.k (λ k. cell_right l.site.right l.site.numbers.now l.a l.a1 (k / l.site.right) (k % l.site.right) (at l.env k)) zero_c)

@@ -7,4 +7,4 @@ use Rattle.complex.specs.Numbers.{at}
 use Rattle.walks.proofs.right_inner.Given as goal
 
 abbrev pub invariant-loop-b : goal.invariant-loop-b
-invariant-loop-b l = (l.b ≤ l.br) × (l.acc ≡ sum_c l.b (λ b. mul_c (at l.site (l.r * l.br + b)) (at l.env (b * l.br + l.b1))) zero_c)
+invariant-loop-b l = (l.b ≤ l.site.right) × (l.acc ≡ sum_c l.b (λ b. mul_c (at l.site.numbers.now (l.r * l.site.right + b)) (at l.env (b * l.site.right + l.b1))) zero_c)

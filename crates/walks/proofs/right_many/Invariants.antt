@@ -7,4 +7,4 @@ use Rattle.complex.specs.Numbers.{at}
 use Rattle.walks.proofs.right_many.Given as goal
 
 abbrev pub invariant-loop-c : goal.invariant-loop-c
-invariant-loop-c l = (l.c ≤ l.wide) × (l.acc ≡ sum_c l.c (λ c. mul_c (at l.front (l.mid + (l.a * l.wide + c))) (conj_c (at l.site (l.a1 * l.wide + c)))) zero_c)
+invariant-loop-c l = (l.c ≤ l.wide) × (l.acc ≡ sum_c l.c (λ c. mul_c (at l.front (l.mid + (l.a * l.wide + c))) (conj_c (at l.site.numbers.now (l.a1 * l.wide + c)))) zero_c)

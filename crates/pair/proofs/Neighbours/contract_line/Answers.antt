@@ -18,7 +18,7 @@ loop-a-preserved g c = let x = c.args.self.now in
       omega arith,
       omega arith,
       elim c.if-this-ne0.branch [
-        | then-this-ne0 w ↦ rw (w.out-is, w.store.ensures, each_more, c.loop-a.invariant.2, ne_eqb g.row.ADJOINT 0 w.if-this-ne0.true) (simp (w.conj.ensures, c.block-t.ensures) (stored_adjoint x.bonds.right th c.loop-a.a c.args.b _))
+        | then-this-ne0 w ↦ rw (w.out-is, w.store.ensures, each_more, c.loop-a.invariant.2, ne_eqb g.row.ADJOINT 0 w.if-this-ne0.true) (simp (w.conj-u.ensures, c.block-t.ensures) (stored_adjoint x.bonds.right th c.loop-a.a c.args.b _))
         | else-this-ne0 w ↦ rw (w.out-is, w.store-else-this-ne0.ensures, each_more, c.block-t.ensures, c.loop-a.invariant.2, w.if-this-ne0.false) (stored_straight x.bonds.left x.bonds.right th c.loop-a.a c.args.b _)
       ],
     )
