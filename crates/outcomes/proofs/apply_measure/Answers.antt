@@ -1,7 +1,6 @@
 -- The draw, the slot and the flag are those of the chain whose centre is at the site.
 use mathlib.Core.Path.{◌≡◌, ap, ◌∙◌}
 use mathlib.Core.Bool.{Bool}
-use Rattle.model.specs.declared.Chain.{Chain}
 use Rattle.model.specs.Slots.{State, held}
 use Rattle.model.specs.Born.{drawn_at, projected_at, readied}
 use Rattle.model.specs.Calls.{flagged}
@@ -33,7 +32,6 @@ returns-clause-store_after c =
     let b = c.drawn-b.result in
     let e : s ≡ t = c.center_on.ensures in
     let d : b ≡ drawn_at a.k a.draw t = c.drawn-b.ensures ∙ drawn_at_lem a.k s a.draw _ _ c.born_weights-both.ensures.zero_value c.born_weights-both.ensures.one_value ∙ ap (drawn_at a.k a.draw) e in
-    ap (λ (x : Chain). held x c.project_site_outcome.new.store) c.with_flag-out.ensures
-    ∙ ap (flagged a.flag b) c.project_site_outcome.ensures
+    ap (flagged a.flag b) c.project_site_outcome.ensures
     ∙ ap (λ (x : State). flagged a.flag b (projected_at a.k b x)) e
     ∙ ap (λ (x : Bool). flagged a.flag x (projected_at a.k x t)) d

@@ -13,8 +13,8 @@ born_weights-both-requires c = let a = c.args in centered_placed a.k a.chain.now
 pub collapse_site_to_zero-requires-clause-placed : goal.collapse_site_to_zero-requires-clause-placed
 collapse_site_to_zero-requires-clause-placed c = let a = c.args in centered_placed a.k a.chain.now c.center_on.new.chain a.store.now c.center_on.new.store a.work.now c.requires.ready c.requires.k_bound c.center_on.ensures
 
-pub returns-clause-store_after : goal.returns-clause-store_after
-returns-clause-store_after c =
+pub returns : goal.returns
+returns c =
     let a = c.args in
     let s = held c.center_on.new.chain c.center_on.new.store in
     let t = readied a.k (held a.chain.now a.store.now) in
