@@ -82,7 +82,7 @@ def public_contracts_have_two_edits():
     return [
         f"{f} has fewer than two must-fail edits"
         for f in edits.public_functions()
-        if f.split("::")[0] not in INTERNAL | PRINTING and f.split("::")[1] not in MAY_REQUIRE and broken.count(f) < 2
+        if f.split("::")[0] not in INTERNAL | PRINTING and f.split("::")[-1] not in MAY_REQUIRE and broken.count(f) < 2
     ]
 
 
@@ -132,21 +132,22 @@ def chain_offers_the_calls_alone():
 
 
 def functions(crate):
-    """The functions of a crate by name, each as its head and, from the brace that ends the head on, its body. No comments."""
+    """The functions and methods of a crate by name, each as its head and, from the brace that ends the head on, its body. No comments."""
     out = {}
     for path in sorted((CRATES / crate / "src").glob("**/*.rt")):
         code = re.sub(r"//.*", "", path.read_text())
-        for m in re.finditer(r"^((?:pub )?(?:extern \"C\" )?fn (\w+).*?)((?:^\{| \{)$.*?^\}$)", code, re.M | re.S):
-            out[m[2]] = m[1], m[3]
+        for m in re.finditer(r"^( *)((?:pub )?(?:extern \"C\" )?fn (\w+).*?)((?:^\1\{| \{$)$.*?^\1\}$)", code, re.M | re.S):
+            out[m[3]] = m[2], m[4]
     return out
 
 
 def nothing_calls_itself(crates):
-    """Neither directly nor through others: within a crate, since crates stand one on another."""
+    """Neither directly nor through others: within a crate, since crates stand one on another. A method is called on `self`."""
     out = []
     for crate in crates:
         texts = functions(crate)
-        calls = {f: {g for g in texts if re.search(rf"(?<![\w.:]){g}\(", body)} for f, (_, body) in texts.items()}
+        call = r"(?:(?<![\w.:])|(?<=\bself\.)|(?<=\bSelf::)){}(?:::<[^>]*>)?\("
+        calls = {f: {g for g in texts if re.search(call.format(g), body)} for f, (_, body) in texts.items()}
         for f in calls:
             reached, todo = set(), {f}
             while todo:
@@ -172,8 +173,8 @@ FORMS = [
     ("moves", "write_right", LENT_TO_WRITE),
     ("moves", "write_left", LENT_TO_WRITE),
     ("cuts", "store_pair", LENT_TO_WRITE),
-    ("outcomes", "project_slot", LENT_TO_WRITE),
-    ("outcomes", "reset_slot", LENT_TO_WRITE),
+    ("outcomes", "project_site_outcome", LENT_TO_WRITE),
+    ("outcomes", "collapse_site_to_zero", LENT_TO_WRITE),
     ("fresh", "fresh_store", LENT_TO_WRITE),
     ("root", "from_units", r"f64::from_bits"),
     ("gates", "swap_gate_qubits", rf"gate: {GATE}\) -> {GATE}"),

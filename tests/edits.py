@@ -37,22 +37,34 @@ def defined():
     return names
 
 
-def public_functions():
-    """The public functions, as crate::function."""
-    out = []
-    for path in sorted(CRATES.glob("*/src/lib.rt")):
-        for name in re.findall(r"^pub (?:extern \"C\" )?fn (\w+)", path.read_text(), re.M):
-            out.append(f"{path.parent.parent.name}::{name}")
+def functions_of(text):
+    """The functions of a source text, as (type or None, name, whether it is public). A trait's methods are as public as the trait."""
+    out, owner, of_trait = [], None, False
+    for line in text.splitlines():
+        block = re.match(r"impl(?:<[^>]*>)? (?:(\S+) for )?(\w+)", line)
+        if block:
+            owner, of_trait = block.group(2), block.group(1) is not None
+        elif line == "}":
+            owner = None
+        function = re.match(r'( *)(pub )?(?:extern "C" )?fn (\w+)', line)
+        if function and (owner is None) == (function.group(1) == ""):
+            out.append((owner, function.group(3), bool(function.group(2)) or (owner is not None and of_trait)))
     return out
+
+
+def named(path, public):
+    crate = path.relative_to(CRATES).parts[0]
+    return ["::".join(filter(None, (crate, owner, name))) for owner, name, is_public in functions_of(path.read_text()) if is_public or not public]
+
+
+def public_functions():
+    """The public functions and methods, as crate::function and crate::Type::method."""
+    return [f for path in sorted(CRATES.glob("*/src/lib.rt")) for f in named(path, True)]
 
 
 def program_functions():
     """The functions of the programs, as crate::function."""
-    return [
-        f"{path.parent.parent.name}::{name}"
-        for path in sorted(CRATES.glob("*/src/main.rt"))
-        for name in re.findall(r"^fn (\w+)", path.read_text(), re.M)
-    ]
+    return [f for path in sorted(CRATES.glob("*/src/main.rt")) for f in named(path, False)]
 
 
 def place(promise, crate, names):
