@@ -9,7 +9,8 @@ ghost use Rattle.pair.specs.Blocks.{grown, dots_of, mix_of, mixed_of, conjugated
 
 use complex::{Complex, complex_at, set_complex};
 
-// The bonds of a pair of neighbours: left of it, between its sites, right of it.
+// The bonds of a pair of neighbours: left of it, between its sites, right of it. The bounds that a contraction needs are
+// facts of Neighbours, since bonds are also read and tested before they are known to be within them.
 #[derive(Clone, Copy)]
 pub struct Bonds {
     pub left: usize,
@@ -118,38 +119,42 @@ fn dots(
     t
 }
 
-// Two neighbouring sites with their bonds, and the gate on them.
+// Two neighbouring sites with their bonds.
 #[derive(Clone, Copy)]
-pub struct Neighbours<'a> {
+pub struct Neighbours<'a, 'b> {
     pub left: &'a [f64],
-    pub right: &'a [f64],
-    pub gate: [[Complex; 4]; 4],
+    pub right: &'b [f64],
     pub bonds: Bonds,
     pub ghost few: { (bonds.left ≤ 128) × (bonds.mid ≤ 128) × (bonds.right ≤ 128) },
     pub ghost within: { (bonds.left * (2 * bonds.mid) ≤ count left.now) × (bonds.mid * (2 * bonds.right) ≤ count right.now) },
 }
 
-impl<'a> Neighbours<'a> {
+impl<'a, 'b> Neighbours<'a, 'b> {
     // The four elements of a and b, with the gate on them.
-    fn block(&self, a: usize, b: usize) -> Block
+    fn block(&self, gate: &[[Complex; 4]; 4], a: usize, b: usize) -> Block
         requires { (a < self.now.bonds.left) × (b < self.now.bonds.right) }
-        ensures { result ≡ gated_block self.now.gate self.now.bonds.mid self.now.bonds.right self.now.left.now self.now.right.now a b }
+        ensures { result ≡ gated_block gate.now self.now.bonds.mid self.now.bonds.right self.now.left.now self.now.right.now a b }
     {
         let mid = self.bonds.mid;
         let br = self.bonds.right;
         let l0 = a * (2 * mid);
-        dots(self.left, l0, self.right, 2 * br, b, br + b, mid).gated(&self.gate)
+        dots(self.left, l0, self.right, 2 * br, b, br + b, mid).gated(gate)
     }
 
     // The elements of one b, by columns: row a * 2 + i and column j * br + b, or the conjugates with row and column exchanged.
-    fn contract_line<const ADJOINT: bool>(&self, out: &mut [f64], b: usize)
+    fn contract_line<const ADJOINT: bool>(
+        &self,
+        gate: &[[Complex; 4]; 4],
+        out: &mut [f64],
+        b: usize,
+    )
         requires { (b < self.now.bonds.right) × (length out.old ≡ 2 * (2 * self.now.bonds.right * (2 * self.now.bonds.left))) }
-        ensures { out.new ≡ line self.now.bonds.left (place_of ADJOINT self.now.bonds.left self.now.bonds.right) (element_of ADJOINT (gated_theta self.now.gate self.now.bonds.mid self.now.bonds.right self.now.left.now self.now.right.now)) b out.old }
+        ensures { out.new ≡ line self.now.bonds.left (place_of ADJOINT self.now.bonds.left self.now.bonds.right) (element_of ADJOINT (gated_theta gate.now self.now.bonds.mid self.now.bonds.right self.now.left.now self.now.right.now)) b out.old }
     {
         let bl = self.bonds.left;
         let br = self.bonds.right;
         for a in 0..bl {
-            let t = self.block(a, b);
+            let t = self.block(gate, a, b);
             if ADJOINT {
                 let u = t.conj();
                 u.store(out, a * 2 * (2 * br) + b, 2 * br, br);
@@ -161,12 +166,12 @@ impl<'a> Neighbours<'a> {
 
     // The gate on the two sites' contraction, as a matrix of 2 * bonds.left rows and 2 * bonds.right columns, by columns.
     // ADJOINT: its conjugate transpose, by columns. The conjugate is taken after the gate.
-    pub fn contract<const ADJOINT: bool>(&self, out: &mut [f64])
+    pub fn contract<const ADJOINT: bool>(&self, gate: &[[Complex; 4]; 4], out: &mut [f64])
         requires { length out.old ≡ 2 * (2 * self.now.bonds.right * (2 * self.now.bonds.left)) }
-        ensures { let th = gated_theta self.now.gate self.now.bonds.mid self.now.bonds.right self.now.left.now self.now.right.now in out.new ≡ cond ADJOINT (adjoint_of self.now.bonds.left self.now.bonds.right th) (matrix_of self.now.bonds.left self.now.bonds.right th) }
+        ensures { let th = gated_theta gate.now self.now.bonds.mid self.now.bonds.right self.now.left.now self.now.right.now in out.new ≡ cond ADJOINT (adjoint_of self.now.bonds.left self.now.bonds.right th) (matrix_of self.now.bonds.left self.now.bonds.right th) }
     {
         for b in 0..self.bonds.right {
-            self.contract_line::<ADJOINT>(out, b);
+            self.contract_line::<ADJOINT>(gate, out, b);
         }
     }
 }

@@ -17,4 +17,4 @@ pub returns : goal.returns
 unfolding lines
 returns g c = let x = c.args.self.now in
     rw (c.loop-b.invariant.2, le_antisymm c.loop-b.invariant.0 c.loop-b-test.false)
-    (lines_either x.bonds.left x.bonds.right (gated_theta x.gate x.bonds.mid x.bonds.right x.left.now x.right.now) (not (eqb g.row.ADJOINT 0)) c.args.out.now c.requires)
+    (lines_either x.bonds.left x.bonds.right (gated_theta c.args.gate.now x.bonds.mid x.bonds.right x.left.now x.right.now) (not (eqb g.row.ADJOINT 0)) c.args.out.now c.requires)

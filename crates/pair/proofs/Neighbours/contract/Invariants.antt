@@ -13,4 +13,4 @@ invariant-loop-b g l =
     let x = l.self in
     let adjoint = not (eqb g.row.ADJOINT 0) in
     (l.b ≤ x.bonds.right) × (length l.out ≡ length l.initial.out)
-    × (l.out ≡ each l.b (line x.bonds.left (place_of adjoint x.bonds.left x.bonds.right) (element_of adjoint (gated_theta x.gate x.bonds.mid x.bonds.right x.left.now x.right.now))) l.initial.out)
+    × (l.out ≡ each l.b (line x.bonds.left (place_of adjoint x.bonds.left x.bonds.right) (element_of adjoint (gated_theta l.gate x.bonds.mid x.bonds.right x.left.now x.right.now))) l.initial.out)

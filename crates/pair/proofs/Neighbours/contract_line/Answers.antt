@@ -14,7 +14,7 @@ loop-a-init g c = (omega arith, omega arith, rw each_none)
 pub loop-a-preserved : goal.loop-a-preserved
 unfolding gated_block
 loop-a-preserved g c = let x = c.args.self.now in
-    let th = gated_theta x.gate x.bonds.mid x.bonds.right x.left.now x.right.now in (
+    let th = gated_theta c.args.gate.now x.bonds.mid x.bonds.right x.left.now x.right.now in (
       omega arith,
       omega arith,
       elim c.if-this-ne0.branch [

@@ -13,4 +13,4 @@ invariant-loop-a g l =
     let x = l.self in
     let adjoint = not (eqb g.row.ADJOINT 0) in
     (l.a ≤ x.bonds.left) × (length l.out ≡ length l.initial.out)
-    × (l.out ≡ each l.a (block (place_of adjoint x.bonds.left x.bonds.right) (element_of adjoint (gated_theta x.gate x.bonds.mid x.bonds.right x.left.now x.right.now)) l.b) l.initial.out)
+    × (l.out ≡ each l.a (block (place_of adjoint x.bonds.left x.bonds.right) (element_of adjoint (gated_theta l.gate x.bonds.mid x.bonds.right x.left.now x.right.now)) l.b) l.initial.out)
