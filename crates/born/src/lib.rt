@@ -95,7 +95,8 @@ fn keep(slot: &mut [f64], bl: usize, br: usize, from: bool, to: bool, w: f64)
     clear_from(slot, bl * (4 * br));
 }
 
-// A site projected on outcome o, whose weight is w.
+// A site projected on outcome o, whose weight is w. The bonds stay parameters here and below: a struct with them and the
+// slot would be made for one call each time, and no fact about them is kept between calls.
 pub fn project(slot: &mut [f64], bl: usize, br: usize, o: bool, w: f64)
     requires br_bound { bl * (2 * br) ≤ count slot.old }
     requires bl_bound { (bl ≤ 128) × (br ≤ 128) }

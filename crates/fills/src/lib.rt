@@ -21,16 +21,16 @@ pub struct Factor {
 
 // The columns of a factor that are kept, in the order of the values: column g is the factor's column order[g].
 #[derive(Clone, Copy)]
-pub struct Columns<'a> {
+pub struct Columns<'a, 'b> {
     pub numbers: &'a [f64],
-    pub order: &'a [u8],
+    pub order: &'b [u8],
     pub factor: Factor,
     pub kept: usize,
     pub ghost few: { (kept ≤ 256) × (kept ≤ length order.now) },
     pub ghost within: { ColumnsIn numbers.now order.now factor kept },
 }
 
-impl<'a> Columns<'a> {
+impl<'a, 'b> Columns<'a, 'b> {
     // Number r of column g.
     fn number(self, r: usize, g: usize) -> Complex
         requires { (g < self.kept) × (r < self.factor.stride) }
@@ -64,7 +64,8 @@ fn fill_row<F: Fn(usize, usize) -> Complex>(out: &mut [f64], number: &F, r: usiz
     }
 }
 
-// The rows of a matrix, one after the other: number c of row r is number(r, c).
+// The rows of a matrix, one after the other: number c of row r is number(r, c). They are lent by index, since
+// `chunks_exact_mut` takes no empty rows, and no column may be kept.
 pub fn fill_rows<F: Fn(usize, usize) -> Complex>(
     slot: &mut [f64],
     high: usize,

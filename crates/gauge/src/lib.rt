@@ -83,7 +83,7 @@ pub fn absorb_right(
     );
 }
 
-// ---- to the left
+// ---- to the left: the sums run over a row of the neighbour and a conjugate row of r, so this is no twin of the other
 
 // Σ over d < n of prev's number line + d times the conjugate of w's number from + (row + d).
 fn left_sum(prev: &[f64], line: usize, w: &[f64], from: usize, row: usize, n: usize) -> Complex

@@ -9,7 +9,8 @@ ghost use Rattle.pair.specs.Blocks.{grown, dots_of, mix_of, mixed_of, conjugated
 
 use complex::{Complex, complex_at, set_complex};
 
-// The bonds of a pair of neighbours: left of it, between its sites, right of it.
+// The bonds of a pair of neighbours: left of it, between its sites, right of it. The bounds that a contraction needs are
+// facts of Neighbours, since bonds are also read and tested before they are known to be within them.
 #[derive(Clone, Copy)]
 pub struct Bonds {
     pub left: usize,

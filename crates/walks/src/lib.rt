@@ -52,14 +52,12 @@ pub fn identity(out: &mut [f64], dim: usize)
     fill_rows(out, dim, dim, |r, c| diagonal(r, c));
 }
 
-// The n numbers from `from` on become the first n. They may overlap: each is read before it is written over.
+// The n numbers from `from` on become the first n. They may overlap.
 fn copy_down(work: &mut [f64], from: usize, n: usize)
     requires { from + n ≤ count work.old }
     ensures { take (2 * n) work.new ≡ numbers n (λ k. at work.old (from + k)) }
 {
-    for k in 0..n {
-        set_complex(work, k, complex_at(work, from + k));
-    }
+    work.copy_within(2 * from..2 * (from + n), 0);
 }
 
 // A matrix from number `to` on, row by row: each number is made of its place and of what lies before the matrix.
@@ -198,7 +196,7 @@ pub fn left_across(site: Site, work: &mut [f64])
     copy_down(work, to, br * br);
 }
 
-// ---- a right environment across a site
+// ---- a right environment across a site: no twin of the left one, whose sums skip zeros and multiply the entry first
 
 // The terms of both bits of the entry e of a right environment at (b, b1), added to acc, unless e is zero.
 #[tactic(auto, unfolding(crate::specs::Products::term_right))]
