@@ -1,11 +1,11 @@
 // What the kernels share. Runs of complex numbers in a slice of f64: a run's norm, runs that are scaled or made zero in
-// place, rows read out of a matrix, and the rest of a slot cleared. A loop counts numbers, since number k stands at two
+// place, and the rest of a slot cleared. A loop counts numbers, since number k stands at two
 // places of the slice, and since two runs of one slice may overlap.
-#![tactic(auto, using(complex::specs::Loops::each_none, complex::specs::Loops::each_more, complex::specs::Numbers::stores_numbers), unfolding(model::specs::Columns::l2_norm, model::specs::Columns::scaled_to, model::specs::Columns::zeroed))]
+#![tactic(auto, using(complex::specs::Loops::each_none, complex::specs::Loops::each_more), unfolding(model::specs::Columns::l2_norm, model::specs::Columns::scaled_to, model::specs::Columns::zeroed))]
 
 ghost use Rattle.std.specs.Prelude.{◌≡◌, ◌++◌, ◌+◌, ◌-◌, ◌*◌, ◌<◌, ◌≤◌, length, replicate, take};
-ghost use Rattle.complex.specs.Complex.{conj_c, zero_f};
-ghost use Rattle.complex.specs.Numbers.{count, at, numbers};
+ghost use Rattle.complex.specs.Complex.{zero_f};
+ghost use Rattle.complex.specs.Numbers.{count};
 ghost use Rattle.model.specs.Columns.{squares, l2_norm, scaled_to, zeroed};
 
 use complex::{Complex, complex_at, set_complex};
@@ -53,41 +53,12 @@ pub fn zero_run(w: &mut [f64], base: usize, n: usize)
     }
 }
 
-// ---- rows read out of a matrix
-
-// Numbers r, stride + r, 2 * stride + r, .. of w, n of them.
-pub fn gather(out: &mut [f64], w: &[f64], stride: usize, r: usize, n: usize)
-    requires { (length out.old ≡ 2 * n) × (r < stride) × (n * stride ≤ count w.now) }
-    ensures { out.new ≡ numbers n (λ k. at w.now (k * stride + r)) }
-{
-    for k in 0..n {
-        set_complex(out, k, complex_at(w, k * stride + r));
-    }
-}
-
-// The conjugates of the n numbers from base + start on.
-pub fn conj_row(out: &mut [f64], w: &[f64], base: usize, start: usize, n: usize)
-    requires { (length out.old ≡ 2 * n) × (base + (start + n) ≤ count w.now) }
-    ensures { out.new ≡ numbers n (λ c. conj_c (at w.now (base + (start + c)))) }
-{
-    for c in 0..n {
-        set_complex(out, c, complex_at(w, base + (start + c)).conj());
-    }
-}
-
 // ---- slots
-
-// Every f64 of a slice becomes +0.
-pub fn fill_zero(s: &mut [f64])
-    ensures { s.new ≡ replicate (length s.old) zero_f }
-{
-    s.fill(0.0);
-}
 
 // Every f64 from `from` on becomes +0.
 pub fn clear_from(w: &mut [f64], from: usize)
     requires { from ≤ length w.old }
     ensures { w.new ≡ take from w.old ++ replicate (length w.old - from) zero_f }
 {
-    fill_zero(&mut w[from..]);
+    w[from..].fill(0.0);
 }

@@ -6,7 +6,6 @@ ghost use Rattle.complex.specs.Complex.{zero_f, one_f};
 ghost use Rattle.model.specs.Slots.{store_room, filled};
 ghost use Rattle.model.specs.Start.{up_to, fresh_chain, fresh_store, zero_chain};
 
-use columns::fill_zero;
 use model::Chain;
 use std::array;
 
@@ -75,7 +74,7 @@ fn fresh_site(slot: &mut [f64])
     requires { 4 ≤ length slot.old }
     ensures { slot.new ≡ filled (length slot.old) (one_f ∷ zero_f ∷ zero_f ∷ zero_f ∷ []) }
 {
-    fill_zero(slot);
+    slot.fill(0.0);
     slot[0] = 1.0;
 }
 
