@@ -4,4 +4,4 @@ use Rattle.session.proofs.start_record.Goals as goal
 
 pub returns : goal.returns
 unfolding start_step
-returns c = λ i work. opened _ _ _ work _ _ _ c.start-out.ensures c.is_done.ensures c.answer_line.ensures i
+returns c = let l = c.left_by.ensures in λ i work. opened _ _ _ work _ _ _ _ _ c.start-out.ensures c.is_done.ensures l.session_value l.line_value c.said_answer.ensures i
