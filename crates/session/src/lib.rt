@@ -114,16 +114,10 @@ fn is_done(answer: Answer) -> bool
 }
 
 // A refused start counts for nothing.
-fn start_record(
-    store: &mut [f64],
-    n: usize,
-    d: usize,
-    exponent: u8,
-    epsilon: f64,
-    clamp: f64,
-) -> Stepped
+fn start_record(store: &mut [f64], n: u8, d: u8, exponent: u8, epsilon: f64, clamp: f64) -> Stepped
     ensures { left result.session result.line store.new ≡ start_step store.old n d exponent epsilon clamp }
 {
+    let (n, d) = (usize::from(n), usize::from(d));
     let out = start(n, d, epsilon, clamp, exponent, store);
     let answer = out.answer;
     left_by(1, is_done(answer), out.chain, said_answer(answer))
@@ -141,16 +135,7 @@ fn kind_record(session: Session, store: &mut [f64], work: &mut [f64], read: Reco
             exponent,
             epsilon,
             clamp,
-        } => {
-            start_record(
-                store,
-                usize::from(n),
-                usize::from(d),
-                exponent,
-                epsilon,
-                clamp,
-            )
-        }
+        } => start_record(store, n, d, exponent, epsilon, clamp),
         Record::Gate { q0, q1, gate } => {
             let out = apply_gate(chain, store, work, usize::from(q0), usize::from(q1), gate);
             left_by(2, true, out.chain, said_applied(out.answer))
@@ -164,14 +149,8 @@ fn kind_record(session: Session, store: &mut [f64], work: &mut [f64], read: Reco
             left_by(4, true, out.chain, said_projected(out.answer))
         }
         Record::Measure { qubit, flag, draw } => {
-            let out = measure(
-                chain,
-                store,
-                work,
-                usize::from(qubit),
-                usize::from(flag),
-                draw,
-            );
+            let flag = usize::from(flag);
+            let out = measure(chain, store, work, usize::from(qubit), flag, draw);
             left_by(5, true, out.chain, said_measured(out.answer))
         }
         Record::Reset { qubit, draw } => {
