@@ -25,7 +25,7 @@ pub struct Line {
 
 // x in decimal from the index `at` on. The index behind it is returned, here and below. By hand, here and below: `write!`
 // promises its text only where it answers Ok, and nothing promises that it does.
-#[tactic(auto, using(crate::specs::Writing::put_one, crate::specs::Writing::put_two, crate::specs::Writing::put_three))]
+#[tactic(auto, using(crate::specs::Writing::put_one, crate::specs::Writing::put_two, crate::specs::Writing::put_three, crate::specs::Writing::decimal_one, crate::specs::Writing::decimal_two, crate::specs::Writing::decimal_three))]
 fn put_decimal(out: &mut [u8], at: usize, x: u8) -> usize
     requires { at + 3 ≤ length out.old }
     ensures out_after { out.new ≡ sets out.old at (decimal x) }
@@ -51,7 +51,11 @@ fn hex_digit(x: u64) -> u8
     requires { x < 16 }
     ensures { result ≡ hex_digit x }
 {
-    if x < 10 { b'0' + x as u8 } else { b'A' + (x as u8 - 10) }
+    if x < 10 {
+        b'0' + x as u8
+    } else {
+        b'A' + (x as u8 - 10)
+    }
 }
 
 // The 16 hex digits of x, highest first.
@@ -73,6 +77,7 @@ fn bit_digit(bit: bool) -> u8
     b'0' + u8::from(bit)
 }
 
+#[tactic(auto, unfolding(crate::specs::Text::detail_text))]
 fn put_detail(out: &mut [u8], at: usize, detail: Detail) -> usize
     requires { at + 17 ≤ length out.old }
     ensures out_after { out.new ≡ sets out.old at (detail_text detail) }
@@ -99,6 +104,7 @@ fn put_detail(out: &mut [u8], at: usize, detail: Detail) -> usize
 
 // The line from the slice's start, ended by a newline, and its length. A slice that is shorter than the longest line
 // is left as it was, and the answer is 0.
+#[tactic(auto, using(crate::specs::Writing::length_decimal, crate::specs::Writing::length_detail, crate::specs::Writing::no_room, crate::specs::Writing::wrote_line))]
 pub fn write_line(out: &mut [u8], line: Line) -> usize
     ensures out_after { out.new ≡ written line out.old }
     ensures value { result ≡ written_length line out.old }
