@@ -1,8 +1,8 @@
 -- The record of a kind that bytes hold, and which bytes hold one.
-use Rattle.std.specs.Prelude.{◌≡◌, Bool, cond, List, ℕ, zero, suc, ◌+◌, ◌<◌, ◌≤◌, T, eqb, leb, take, Float, Option, Some, None, is_some, option_map}
+use Rattle.std.specs.Prelude.{◌≡◌, Bool, true, false, not, ◌&&◌, ◌||◌, cond, List, ℕ, zero, suc, ◌+◌, ◌<◌, ◌≤◌, T, eqb, leb, take, Float, Option, Some, None, is_some, option_map}
 use Rattle.std.proofs.Math.Path.{refl, sym, ap}
 use Rattle.std.proofs.Common.{subst, ◌∙◌, arith}
-use borrow.Author.Tests.{ne_eqb}
+use borrow.Author.Tests.{ne_eqb, le-leb, lt-leb}
 use Rattle.std.specs.Float.{binary64}
 use Rattle.std.specs.Float.Ieee.{of_bits}
 use Rattle.gates.specs.declared.NamedGate.{NamedGate}
@@ -21,7 +21,10 @@ number_in f kind bytes = value (field_bytes f kind bytes)
 abbrev pub float_in : Field → ℕ → List ℕ → Float
 float_in f kind bytes = of_bits binary64 (number_in f kind bytes)
 
--- a named gate's code is 0, 1 or 2, and a projection's bit is 0 or 1
+-- a kind is one of six, a named gate's code is 0, 1 or 2, and a projection's bit is 0 or 1
+abbrev pub is_kind : ℕ → Bool
+is_kind k = leb 1 k && leb k 6
+
 abbrev pub code_fits : ℕ → Bool
 code_fits code = leb code 2
 
@@ -93,6 +96,27 @@ valid_kind (suc (suc (suc (suc zero)))) bytes h = (omega arith, omega arith)
 valid_kind (suc (suc (suc (suc (suc zero))))) bytes h = (omega arith, omega arith)
 valid_kind (suc (suc (suc (suc (suc (suc zero)))))) bytes h = (omega arith, omega arith)
 valid_kind (suc (suc (suc (suc (suc (suc (suc k))))))) bytes h = absurd (subst T (ap is_some (none_above (suc (suc (suc (suc (suc (suc (suc k))))))) bytes (omega arith))) h)
+
+-- bytes hold a record where the kind, a named gate's code and a projection's bit are as said
+fitting : {A B : Type 0} (make : A → B) (x : A) (t : Bool) → is_some (option_map make (cond t (Some x) None)) ≡ t
+fitting make x true = refl
+fitting make x false = refl
+
+and_true : (t : Bool) → t ≡ (t && true)
+and_true true = refl
+and_true false = refl
+
+pub valid_when : (k : ℕ) (bytes : List ℕ) → valid k bytes ≡ (is_kind k && (not (eqb k 3) || code_fits (number_in at.code k bytes)) && (not (eqb k 4) || bit_fits (number_in at.bit k bytes)))
+unfolding record_in named_gate bit_in
+valid_when zero bytes = refl
+valid_when (suc zero) bytes = refl
+valid_when (suc (suc zero)) bytes = refl
+valid_when (suc (suc (suc zero))) bytes = fitting _ _ _ ∙ and_true _
+valid_when (suc (suc (suc (suc zero)))) bytes = fitting _ _ _
+valid_when (suc (suc (suc (suc (suc zero))))) bytes = refl
+valid_when (suc (suc (suc (suc (suc (suc zero)))))) bytes = refl
+valid_when (suc (suc (suc (suc (suc (suc (suc k))))))) bytes =
+    let n = suc (suc (suc (suc (suc (suc (suc k)))))) in ap is_some (none_above n bytes (omega arith)) ∙ sym (rw (le-leb 1 n (omega arith), lt-leb n 6 (omega arith)) refl)
 
 abbrev kind_in : Option Record → ℕ
 kind_in None = 0
