@@ -23,25 +23,26 @@ pub struct Line {
     pub detail: Detail,
 }
 
-// x in decimal from the index `at` on. The index behind it is returned, here and below.
-#[tactic(auto, using(crate::specs::Writing::put_one, crate::specs::Writing::put_two, crate::specs::Writing::put_three))]
+// x in decimal from the index `at` on. The index behind it is returned, here and below. By hand, here and below: `write!`
+// promises its text only where it answers Ok, and nothing promises that it does.
+#[tactic(auto, using(crate::specs::Writing::put_one, crate::specs::Writing::put_two, crate::specs::Writing::put_three, crate::specs::Writing::decimal_one, crate::specs::Writing::decimal_two, crate::specs::Writing::decimal_three))]
 fn put_decimal(out: &mut [u8], at: usize, x: u8) -> usize
     requires { at + 3 ≤ length out.old }
     ensures out_after { out.new ≡ sets out.old at (decimal x) }
     ensures value { result ≡ at + length (decimal x) }
 {
     if x < 10 {
-        out[at] = 48 + x;
+        out[at] = b'0' + x;
         return at + 1;
     }
     if x < 100 {
-        out[at] = 48 + x / 10;
-        out[at + 1] = 48 + x % 10;
+        out[at] = b'0' + x / 10;
+        out[at + 1] = b'0' + x % 10;
         return at + 2;
     }
-    out[at] = 48 + x / 100;
-    out[at + 1] = 48 + x / 10 % 10;
-    out[at + 2] = 48 + x % 10;
+    out[at] = b'0' + x / 100;
+    out[at + 1] = b'0' + x / 10 % 10;
+    out[at + 2] = b'0' + x % 10;
     at + 3
 }
 
@@ -50,7 +51,11 @@ fn hex_digit(x: u64) -> u8
     requires { x < 16 }
     ensures { result ≡ hex_digit x }
 {
-    if x < 10 { 48 + x as u8 } else { 55 + x as u8 }
+    if x < 10 {
+        b'0' + x as u8
+    } else {
+        b'A' + (x as u8 - 10)
+    }
 }
 
 // The 16 hex digits of x, highest first.
@@ -59,10 +64,8 @@ fn put_hex(out: &mut [u8], at: usize, x: u64) -> usize
     ensures out_after { out.new ≡ sets out.old at (hex_text x) }
     ensures value { result ≡ at + length (hex_text x) }
 {
-    let mut k = 0;
-    while k < 16 {
+    for k in 0..16 {
         out[at + k] = hex_digit((x >> (60 - 4 * k)) % 16);
-        k += 1;
     }
     at + 16
 }
@@ -71,9 +74,10 @@ fn put_hex(out: &mut [u8], at: usize, x: u64) -> usize
 fn bit_digit(bit: bool) -> u8
     ensures { result ≡ bit_digit bit }
 {
-    if bit { 49 } else { 48 }
+    b'0' + u8::from(bit)
 }
 
+#[tactic(auto, unfolding(crate::specs::Text::detail_text))]
 fn put_detail(out: &mut [u8], at: usize, detail: Detail) -> usize
     requires { at + 17 ≤ length out.old }
     ensures out_after { out.new ≡ sets out.old at (detail_text detail) }
@@ -83,15 +87,15 @@ fn put_detail(out: &mut [u8], at: usize, detail: Detail) -> usize
         Detail::Empty => at,
         Detail::Kept(weight) => {
             let bits = to_bits(weight);
-            out[at] = 32;
+            out[at] = b' ';
             put_hex(out, at + 1, bits)
         }
         Detail::Nothing => {
-            out[at] = 32;
+            out[at] = b' ';
             put_hex(out, at + 1, 0)
         }
         Detail::Bit(bit) => {
-            out[at] = 32;
+            out[at] = b' ';
             out[at + 1] = bit_digit(bit);
             at + 2
         }
@@ -100,6 +104,7 @@ fn put_detail(out: &mut [u8], at: usize, detail: Detail) -> usize
 
 // The line from the slice's start, ended by a newline, and its length. A slice that is shorter than the longest line
 // is left as it was, and the answer is 0.
+#[tactic(auto, using(crate::specs::Writing::length_decimal, crate::specs::Writing::length_detail, crate::specs::Writing::no_room, crate::specs::Writing::wrote_line))]
 pub fn write_line(out: &mut [u8], line: Line) -> usize
     ensures out_after { out.new ≡ written line out.old }
     ensures value { result ≡ written_length line out.old }
@@ -108,10 +113,10 @@ pub fn write_line(out: &mut [u8], line: Line) -> usize
         return 0;
     }
     let gap = put_decimal(out, 0, line.kind);
-    out[gap] = 32;
+    out[gap] = b' ';
     let rest = put_decimal(out, gap + 1, line.number);
     let detail = line.detail;
     let end = put_detail(out, rest, detail);
-    out[end] = 10;
+    out[end] = b'\n';
     end + 1
 }

@@ -1,14 +1,14 @@
 -- Reading a run record: bytes begin at its length, and may end before it or go on past it.
-use Rattle.std.specs.Prelude.{◌≡◌, Bool, true, false, ◌&&◌, cond, List, ℕ, ◌+◌, ◌≤◌, ◌<◌, eqb, leb, length, take, drop}
+use Rattle.std.specs.Prelude.{◌≡◌, Bool, true, false, ◌&&◌, cond, List, ℕ, ◌+◌, ◌≤◌, ◌<◌, eqb, leb, length, take, drop, Option, Some, None, is_some}
 use Rattle.std.proofs.Math.Path.{refl, sym}
 use Rattle.std.proofs.Common.{ap, subst, ◌∙◌, le_of_lt, arith, length-take-le, take_all}
 use borrow.Author.Tests.{lt-leb, le-leb, ne_eqb, eq-eqb, leb-true, leb-false, eqb-true, eqb-false}
 use Rattle.std.proofs.Math.Dec.{T}
 use Rattle.complex.specs.Parts.{part}
 use Rattle.bytes_le.specs.Value.{value}
-use Rattle.record.specs.declared.Read.{Read}
+use Rattle.record.specs.declared.Record.{Record}
 use Rattle.record.specs.Layout.{body_size, has_length, more_bytes, more_some, kind_length, part_front}
-use Rattle.record.specs.Fields.{fields_of, blank_fields, valid, valid_kind, fields_front}
+use Rattle.record.specs.Fields.{record_in, valid, kind_of_record, valid_kind, record_kind, fields_front}
 
 -- the length and the kind that a record begins with
 abbrev pub length_of : List ℕ → ℕ
@@ -17,16 +17,17 @@ length_of bytes = value (part 0 2 bytes)
 abbrev pub kind_of : List ℕ → ℕ
 kind_of bytes = value (part 2 4 bytes)
 
--- whether a record can be taken: length and kind are there, the length is the kind's, as many bytes are there, and the fields are valid
+-- whether a record can be taken: length and kind are there, the length is the kind's, as many bytes are there, and the bytes hold a record of the kind
 unfoldable pub accepted : List ℕ → Bool
 accepted bytes =
-    leb 4 (length bytes) && (eqb (length_of bytes) (2 + body_size (kind_of bytes)) && (leb (2 + length_of bytes) (length bytes) && valid (fields_of (kind_of bytes) bytes)))
+    leb 4 (length bytes) && (eqb (length_of bytes) (2 + body_size (kind_of bytes)) && (leb (2 + length_of bytes) (length bytes) && valid (kind_of bytes) bytes))
 
-abbrev pub turned_away : Read
-turned_away = record { refused = 8; fields = blank_fields 0 }
+-- what is turned away is refused by 8
+abbrev pub turned_away : Option Record
+turned_away = None
 
-unfoldable pub read_of : List ℕ → Read
-read_of bytes = cond (accepted bytes) (record { refused = 0; fields = fields_of (kind_of bytes) bytes }) turned_away
+unfoldable pub read_of : List ℕ → Option Record
+read_of bytes = cond (accepted bytes) (record_in (kind_of bytes) bytes) turned_away
 
 -- what follows the record
 abbrev pub next : List ℕ → List ℕ
@@ -55,51 +56,53 @@ module _ (bytes : List ℕ) where
   unfolding accepted
   cut_off h = away (rw (lt-leb (2 + length_of bytes) (length bytes) h) (simp and_false))
 
-  pub bad_fields : valid (fields_of (kind_of bytes) bytes) ≡ false → turned_away ≡ read_of bytes
+  pub bad_fields : valid (kind_of bytes) bytes ≡ false → turned_away ≡ read_of bytes
   unfolding accepted
   bad_fields h = away (rw h (simp and_false))
 
-  pub taken : 4 ≤ length bytes → length_of bytes ≡ 2 + body_size (kind_of bytes) → 2 + length_of bytes ≤ length bytes → valid (fields_of (kind_of bytes) bytes) ≡ true → ◌≡◌ {A = Read} (record { refused = 0; fields = fields_of (kind_of bytes) bytes }) (read_of bytes)
+  -- where length and kind are there and fit, what is read is the record that the bytes hold
+  pub taken : 4 ≤ length bytes → length_of bytes ≡ 2 + body_size (kind_of bytes) → 2 + length_of bytes ≤ length bytes → record_in (kind_of bytes) bytes ≡ read_of bytes
   unfolding accepted read_of
-  taken a b c d = rw (le-leb 4 (length bytes) a, eq-eqb (length_of bytes) (2 + body_size (kind_of bytes)) b, le-leb (2 + length_of bytes) (length bytes) c, d)
+  taken a b c =
+      rw (le-leb 4 (length bytes) a, eq-eqb (length_of bytes) (2 + body_size (kind_of bytes)) b, le-leb (2 + length_of bytes) (length bytes) c) (held (record_in (kind_of bytes) bytes))
+    where
+      held : (r : Option Record) → r ≡ cond (is_some r) r turned_away
+      held None = refl
+      held (Some r) = refl
 
   -- bytes whose length is no kind's
   pub no_such_length : more_bytes (length_of bytes) ≡ 0 → turned_away ≡ read_of bytes
-  unfolding fields_of
-  no_such_length h = by (valid (fields_of (kind_of bytes) bytes)) refl
+  no_such_length h = by (valid (kind_of bytes) bytes) refl
     where
-      none : T (valid (fields_of (kind_of bytes) bytes)) → length_of bytes ≡ 2 + body_size (kind_of bytes) → ⊥
+      none : T (valid (kind_of bytes) bytes) → length_of bytes ≡ 2 + body_size (kind_of bytes) → ⊥
       none v l =
-          let k = valid_kind (fields_of (kind_of bytes) bytes) v in
+          let k = valid_kind (kind_of bytes) bytes v in
           omega (arith, l, sym (more_some (length_of bytes) (ap has_length l ∙ kind_length (kind_of bytes) k.0 k.1)) ∙ h)
 
-      by : (t : Bool) → valid (fields_of (kind_of bytes) bytes) ≡ t → turned_away ≡ read_of bytes
+      by : (t : Bool) → valid (kind_of bytes) bytes ≡ t → turned_away ≡ read_of bytes
       by true e = wrong_length (none (subst T (sym e) tt))
       by false e = bad_fields e
 
--- what is read is of one of the six kinds
+-- what is read is of the kind that stands in the bytes, one of the six
 and_right : (a b : Bool) → (a && b) ≡ true → b ≡ true
 and_right true b e = e
 and_right false b e = absurd (subst T (sym e) tt)
 
-accepted_valid : (bytes : List ℕ) → accepted bytes ≡ true → T (valid (fields_of (kind_of bytes) bytes))
+accepted_valid : (bytes : List ℕ) → accepted bytes ≡ true → T (valid (kind_of bytes) bytes)
 unfolding accepted
 accepted_valid bytes e =
-    let v = valid (fields_of (kind_of bytes) bytes) in
+    let v = valid (kind_of bytes) bytes in
     let fits = leb (2 + length_of bytes) (length bytes) && v in
     let named = eqb (length_of bytes) (2 + body_size (kind_of bytes)) && fits in
     subst T (sym (and_right (leb (2 + length_of bytes) (length bytes)) v (and_right (eqb (length_of bytes) (2 + body_size (kind_of bytes))) fits (and_right (leb 4 (length bytes)) named e)))) tt
 
-pub read_kind : (bytes : List ℕ) → eqb (read_of bytes).refused 0 ≡ true → (1 ≤ (read_of bytes).fields.kind) × ((read_of bytes).fields.kind ≤ 6)
+pub read_kind : (bytes : List ℕ) (r : Record) → read_of bytes ≡ Some r → (kind_of_record r ≡ kind_of bytes) × (1 ≤ kind_of bytes) × (kind_of bytes ≤ 6)
 unfolding read_of
-read_kind bytes e = by (accepted bytes) refl e
+read_kind bytes r e = by (accepted bytes) refl e
   where
-    read : Bool → Read
-    read t = cond t (record { refused = 0; fields = fields_of (kind_of bytes) bytes }) turned_away
-
-    by : (t : Bool) → accepted bytes ≡ t → eqb (read t).refused 0 ≡ true → (1 ≤ (read t).fields.kind) × ((read t).fields.kind ≤ 6)
-    by true a e = valid_kind (fields_of (kind_of bytes) bytes) (accepted_valid bytes a)
-    by false a e = absurd (subst T (sym e) tt)
+    by : (t : Bool) → accepted bytes ≡ t → cond t (record_in (kind_of bytes) bytes) turned_away ≡ Some r → (kind_of_record r ≡ kind_of bytes) × (1 ≤ kind_of bytes) × (kind_of bytes ≤ 6)
+    by true a e = let k = valid_kind (kind_of bytes) bytes (accepted_valid bytes a) in (sym (record_kind (kind_of bytes) bytes r e), k.0, k.1)
+    by false a e = absurd (subst T (ap is_some (sym e)) tt)
 
 -- ---- what stands behind the record has no part in what is read
 
@@ -117,18 +120,17 @@ module _ (bytes : List ℕ) (more : 2 + length_of bytes ≤ length bytes) (room 
   same_kind = ap value (part_front 2 4 (2 + length_of bytes) bytes (omega arith) (omega arith))
 
   module _ (l : length_of bytes ≡ 2 + body_size (kind_of bytes)) where
-    same_fields : fields_of (kind_of front) front ≡ fields_of (kind_of bytes) bytes
-    same_fields = ap (λ k. fields_of k front) same_kind ∙ fields_front (kind_of bytes) (2 + length_of bytes) bytes (omega (arith, l))
+    same_record : record_in (kind_of front) front ≡ record_in (kind_of bytes) bytes
+    same_record = ap (λ k. record_in k front) same_kind ∙ fields_front (kind_of bytes) (2 + length_of bytes) bytes (omega (arith, l))
 
-    by_fields : (t : Bool) → valid (fields_of (kind_of bytes) bytes) ≡ t → read_of front ≡ read_of bytes
-    by_fields false e = sym (bad_fields front (ap valid same_fields ∙ e)) ∙ bad_fields bytes e
-    by_fields true e =
-        sym (taken front (omega (arith, length_front)) (same_length ∙ l ∙ ap (λ k. 2 + body_size k) (sym same_kind)) (omega (arith, length_front, same_length)) (ap valid same_fields ∙ e))
-        ∙ ap (λ f. record { refused = 0; fields = f }) same_fields
-        ∙ taken bytes (omega arith) l more e
+    same_reading : read_of front ≡ read_of bytes
+    same_reading =
+        sym (taken front (omega (arith, length_front)) (same_length ∙ l ∙ ap (λ k. 2 + body_size k) (sym same_kind)) (omega (arith, length_front, same_length)))
+        ∙ same_record
+        ∙ taken bytes (omega arith) l more
 
   by_length : (t : Bool) → eqb (length_of bytes) (2 + body_size (kind_of bytes)) ≡ t → read_of front ≡ read_of bytes
-  by_length true e = let l = eqb-true (length_of bytes) (2 + body_size (kind_of bytes)) e in by_fields l (valid (fields_of (kind_of bytes) bytes)) refl
+  by_length true e = same_reading (eqb-true (length_of bytes) (2 + body_size (kind_of bytes)) e)
   by_length false e =
       let n = eqb-false (length_of bytes) (2 + body_size (kind_of bytes)) e in
       sym (wrong_length front (λ l. n (sym same_length ∙ l ∙ ap (λ k. 2 + body_size k) same_kind))) ∙ wrong_length bytes n

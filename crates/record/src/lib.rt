@@ -1,4 +1,4 @@
-// Run records: bytes read as a record's fields, or turned away under 8. A record is its length, 2 bytes that count
+// Run records: bytes read as a record, or turned away under 8. A record is its length, 2 bytes that count
 // kind and body, its kind, 2 bytes, and its body. Where each field stands is said in specs/Layout.antt.
 #![tactic(auto)]
 
@@ -6,35 +6,47 @@ ghost use Rattle.std.specs.Prelude.{◌≡◌, ◌+◌, ◌*◌, ◌≤◌, [], 
 ghost use Rattle.bytes_le.specs.Value.{value};
 ghost use Rattle.gates.specs.Gate.{four};
 ghost use Rattle.record.specs.Layout.{body_size, has_length, more_bytes};
-ghost use Rattle.record.specs.Fields.{blank_fields, fields_of, valid};
-ghost use Rattle.record.specs.Reading.{read_of, turned_away};
+ghost use Rattle.record.specs.Fields.{named_gate, bit_in, record_in};
+ghost use Rattle.record.specs.Reading.{read_of};
 ghost use Rattle.record.specs.GateBytes.{complex_at, gate_in, gate_read};
 
 use bytes_le::{f64_at, u8_at, u16_at};
 use complex::Complex;
+use gates::NamedGate;
 
-// The fields of every kind of record, as they stand in it. Those that the kind does not have are 0.
+// A run record, by its kind. Qubits, settings and draws are as they stand in the bytes; a call tests them.
 #[derive(Clone, Copy)]
-pub struct Fields {
-    pub kind: u16,
-    pub n: u8,
-    pub d: u8,
-    pub exponent: u8,
-    pub q0: u8, // the qubit, where there is one
-    pub q1: u8,
-    pub code: u8,
-    pub bit: u8,
-    pub flag: u8,
-    pub epsilon: f64,
-    pub clamp: f64,
-    pub draw: f64,
-}
-
-// What reading finds: fields under 0, or 8 with fields that are all 0.
-#[derive(Clone, Copy)]
-pub struct Read {
-    pub refused: u8,
-    pub fields: Fields,
+pub enum Record {
+    Start {
+        n: u8,
+        d: u8,
+        exponent: u8,
+        epsilon: f64,
+        clamp: f64,
+    },
+    Gate {
+        q0: u8,
+        q1: u8,
+        gate: [[Complex; 4]; 4],
+    },
+    NamedGate {
+        q0: u8,
+        q1: u8,
+        name: NamedGate,
+    },
+    Projection {
+        qubit: u8,
+        bit: bool,
+    },
+    Measure {
+        qubit: u8,
+        flag: u8,
+        draw: f64,
+    },
+    Reset {
+        qubit: u8,
+        draw: f64,
+    },
 }
 
 // ---- lengths
@@ -60,7 +72,7 @@ pub fn body_size(kind: u16) -> usize
 fn has_length(size: usize) -> bool
     ensures { result ≡ has_length size }
 {
-    (size == 21) | (size == 260) | (size == 5) | (size == 4) | (size == 12) | (size == 11)
+    matches!(size, 21 | 260 | 5 | 4 | 12 | 11)
 }
 
 // How many bytes follow the two of the length; 0 if no record has that length.
@@ -68,178 +80,8 @@ fn has_length(size: usize) -> bool
 pub fn more_bytes(low: u8, high: u8) -> usize
     ensures { result ≡ more_bytes (value (low ∷ high ∷ [])) }
 {
-    let size = low as usize + 256 * (high as usize);
+    let size = usize::from(low) + 256 * usize::from(high);
     if has_length(size) { size } else { 0 }
-}
-
-// ---- fields
-
-fn blank(kind: u16) -> Fields
-    ensures { result ≡ blank_fields kind }
-{
-    Fields {
-        kind: kind,
-        n: 0,
-        d: 0,
-        exponent: 0,
-        q0: 0,
-        q1: 0,
-        code: 0,
-        bit: 0,
-        flag: 0,
-        epsilon: 0.0,
-        clamp: 0.0,
-        draw: 0.0,
-    }
-}
-
-#[tactic(auto, unfolding(bytes_le::specs::Value::value, crate::specs::Layout::field_bytes, crate::specs::Fields::fields_of))]
-fn start_fields(bytes: &[u8]) -> Fields
-    requires { 23 ≤ length bytes.now }
-    ensures { result ≡ fields_of 1 bytes.now }
-{
-    let none = blank(1);
-    Fields {
-        n: u8_at(bytes, 4),
-        d: u8_at(bytes, 5),
-        exponent: u8_at(bytes, 6),
-        epsilon: f64_at(bytes, 7),
-        clamp: f64_at(bytes, 15),
-        ..none
-    }
-}
-
-#[tactic(auto, unfolding(bytes_le::specs::Value::value, crate::specs::Layout::field_bytes, crate::specs::Fields::fields_of))]
-fn gate_fields(bytes: &[u8]) -> Fields
-    requires { 262 ≤ length bytes.now }
-    ensures { result ≡ fields_of 2 bytes.now }
-{
-    let none = blank(2);
-    Fields {
-        q0: u8_at(bytes, 4),
-        q1: u8_at(bytes, 5),
-        ..none
-    }
-}
-
-#[tactic(auto, unfolding(bytes_le::specs::Value::value, crate::specs::Layout::field_bytes, crate::specs::Fields::fields_of))]
-fn named_gate_fields(bytes: &[u8]) -> Fields
-    requires { 7 ≤ length bytes.now }
-    ensures { result ≡ fields_of 3 bytes.now }
-{
-    let none = blank(3);
-    Fields {
-        q0: u8_at(bytes, 4),
-        q1: u8_at(bytes, 5),
-        code: u8_at(bytes, 6),
-        ..none
-    }
-}
-
-#[tactic(auto, unfolding(bytes_le::specs::Value::value, crate::specs::Layout::field_bytes, crate::specs::Fields::fields_of))]
-fn projection_fields(bytes: &[u8]) -> Fields
-    requires { 6 ≤ length bytes.now }
-    ensures { result ≡ fields_of 4 bytes.now }
-{
-    let none = blank(4);
-    Fields {
-        q0: u8_at(bytes, 4),
-        bit: u8_at(bytes, 5),
-        ..none
-    }
-}
-
-fn measure_fields(bytes: &[u8]) -> Fields
-    requires { 14 ≤ length bytes.now }
-    ensures { result ≡ fields_of 5 bytes.now }
-{
-    let none = blank(5);
-    Fields {
-        q0: u8_at(bytes, 4),
-        flag: u8_at(bytes, 5),
-        draw: f64_at(bytes, 6),
-        ..none
-    }
-}
-
-#[tactic(auto, unfolding(bytes_le::specs::Value::value, crate::specs::Layout::field_bytes, crate::specs::Fields::fields_of))]
-fn reset_fields(bytes: &[u8]) -> Fields
-    requires { 13 ≤ length bytes.now }
-    ensures { result ≡ fields_of 6 bytes.now }
-{
-    let none = blank(6);
-    Fields {
-        q0: u8_at(bytes, 4),
-        draw: f64_at(bytes, 5),
-        ..none
-    }
-}
-
-// The fields of a record of this kind that begins the bytes.
-#[tactic(auto, using(crate::specs::Fields::no_fields), unfolding(crate::specs::Layout::body_size))]
-fn fields_of(bytes: &[u8], kind: u16) -> Fields
-    requires { 4 + body_size kind ≤ length bytes.now }
-    ensures { result ≡ fields_of kind bytes.now }
-{
-    match kind {
-        1 => start_fields(bytes),
-        2 => gate_fields(bytes),
-        3 => named_gate_fields(bytes),
-        4 => projection_fields(bytes),
-        5 => measure_fields(bytes),
-        6 => reset_fields(bytes),
-        _ => blank(kind),
-    }
-}
-
-// Whether a record may have these fields: its kind is known, a named gate's code is at most 2, a projection's bit at most 1.
-#[tactic(auto, unfolding(crate::specs::Fields::valid))]
-pub fn is_valid(fields: Fields) -> bool
-    ensures { result ≡ valid fields }
-{
-    let kind = fields.kind;
-    ((1 <= kind) & (kind <= 6))
-        & ((kind != 3) | (fields.code <= 2))
-        & ((kind != 4) | (fields.bit <= 1))
-}
-
-// ---- reading
-
-fn turned_away() -> Read
-    ensures { result ≡ turned_away }
-{
-    let none = blank(0);
-    Read {
-        refused: 8,
-        fields: none,
-    }
-}
-
-// The record that begins the bytes. They may go on past it.
-#[tactic(auto, using(crate::specs::Layout::body_size_small, crate::specs::Reading::short, crate::specs::Reading::wrong_length, crate::specs::Reading::cut_off, crate::specs::Reading::bad_fields, crate::specs::Reading::taken))]
-pub fn read_record(bytes: &[u8]) -> Read
-    ensures { result ≡ read_of bytes.now }
-{
-    let len = bytes.len();
-    if len < 4 {
-        return turned_away();
-    }
-    let size = u16_at(bytes, 0) as usize;
-    let kind = u16_at(bytes, 2);
-    if size != 2 + body_size(kind) {
-        return turned_away();
-    }
-    if len - 2 < size {
-        return turned_away();
-    }
-    let fields = fields_of(bytes, kind);
-    if !is_valid(fields) {
-        return turned_away();
-    }
-    Read {
-        refused: 0,
-        fields: fields,
-    }
 }
 
 // ---- the gate of a gate record
@@ -287,8 +129,91 @@ pub fn read_gate(bytes: &[u8]) -> [[Complex; 4]; 4]
     ensures { result ≡ gate_read bytes.now }
 {
     if bytes.len() < 262 {
-        let z = Complex { re: 0.0, im: 0.0 };
-        return [[z, z, z, z], [z, z, z, z], [z, z, z, z], [z, z, z, z]];
+        return [[Complex::ZERO; 4]; 4];
     }
     gate_from(&bytes[6..262])
+}
+
+// ---- reading
+
+// The gate of a code, if it is one.
+#[tactic(auto, unfolding(crate::specs::Fields::named_gate))]
+fn named_gate(code: u8) -> Option<NamedGate>
+    ensures { result ≡ named_gate code }
+{
+    match code {
+        0 => Some(NamedGate::Swap),
+        1 => Some(NamedGate::Cx),
+        2 => Some(NamedGate::Cz),
+        _ => None,
+    }
+}
+
+// The bit that a byte is, if it is one.
+#[tactic(auto, unfolding(crate::specs::Fields::bit_in))]
+fn bit_in(byte: u8) -> Option<bool>
+    ensures { result ≡ bit_in byte }
+{
+    if byte <= 1 { Some(byte == 1) } else { None }
+}
+
+// The record of this kind that begins the bytes, if its code or bit is one.
+#[tactic(auto, unfolding(bytes_le::specs::Value::value, crate::specs::Layout::body_size, crate::specs::Layout::field_bytes, crate::specs::Fields::record_in), using(crate::specs::Fields::no_fields, crate::specs::GateBytes::gate_there))]
+fn record_in(bytes: &[u8], kind: u16) -> Option<Record>
+    requires { 4 + body_size kind ≤ length bytes.now }
+    ensures { result ≡ record_in kind bytes.now }
+{
+    match kind {
+        1 => Some(Record::Start {
+            n: u8_at(bytes, 4),
+            d: u8_at(bytes, 5),
+            exponent: u8_at(bytes, 6),
+            epsilon: f64_at(bytes, 7),
+            clamp: f64_at(bytes, 15),
+        }),
+        2 => Some(Record::Gate {
+            q0: u8_at(bytes, 4),
+            q1: u8_at(bytes, 5),
+            gate: read_gate(bytes),
+        }),
+        3 => Some(Record::NamedGate {
+            q0: u8_at(bytes, 4),
+            q1: u8_at(bytes, 5),
+            name: named_gate(u8_at(bytes, 6))?,
+        }),
+        4 => Some(Record::Projection {
+            qubit: u8_at(bytes, 4),
+            bit: bit_in(u8_at(bytes, 5))?,
+        }),
+        5 => Some(Record::Measure {
+            qubit: u8_at(bytes, 4),
+            flag: u8_at(bytes, 5),
+            draw: f64_at(bytes, 6),
+        }),
+        6 => Some(Record::Reset {
+            qubit: u8_at(bytes, 4),
+            draw: f64_at(bytes, 5),
+        }),
+        _ => None,
+    }
+}
+
+// The record that begins the bytes; they may go on past it. What does not read is refused by 8.
+#[tactic(auto, using(crate::specs::Layout::body_size_small, crate::specs::Reading::short, crate::specs::Reading::wrong_length, crate::specs::Reading::cut_off, crate::specs::Reading::taken))]
+pub fn read_record(bytes: &[u8]) -> Option<Record>
+    ensures { result ≡ read_of bytes.now }
+{
+    let len = bytes.len();
+    if len < 4 {
+        return None;
+    }
+    let size = usize::from(u16_at(bytes, 0));
+    let kind = u16_at(bytes, 2);
+    if size != 2 + body_size(kind) {
+        return None;
+    }
+    if len - 2 < size {
+        return None;
+    }
+    record_in(bytes, kind)
 }

@@ -105,8 +105,10 @@ fn stored_nan(store: &mut [f64], work: &mut [f64]) -> u8 {
 // 8: kind 9.
 fn unknown_kind() -> u8 {
     let bytes = [2u8, 0, 9, 0];
-    let r = read_record(&bytes);
-    r.refused
+    match read_record(&bytes) {
+        None => 8,
+        Some(_) => 0,
+    }
 }
 
 // The first n bytes, where there are so many.

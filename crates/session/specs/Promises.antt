@@ -2,8 +2,7 @@
 use Rattle.std.specs.Prelude.{ℕ, ◌≤◌, ◌≡◌, List, [], ◌∷◌, ◌++◌, Float}
 use Rattle.std.proofs.Math.Bool.{true, false}
 use Rattle.model.specs.Answers.{Value, none, weight, nothing, bit, dimension, View, bits_of}
-use Rattle.record.specs.declared.Fields.{Fields}
-use Rattle.record.specs.Reading.{read_of}
+use Rattle.record.specs.Reading.{kind_of, read_of}
 use Rattle.lines.specs.Text.{digit, decimal, hex_text, line_text}
 use Rattle.session.specs.declared.Session.{Session}
 use Rattle.session.specs.Session.{new_session, line_of, turned_away, start_step, obeys, step_of}
@@ -27,7 +26,7 @@ pub record Promised : Type 0 where
   pub stopped : (s : Session) (store work : List Float) (bytes : List ℕ) → obeys s (read_of bytes) ≡ false → step_of s store work bytes ≡ turned_away s store work
   -- any other record has a line of its kind, which is never 0
   pub obeyed : (s : Session) (store work : List Float) (bytes : List ℕ) → obeys s (read_of bytes) ≡ true
-      → ((step_of s store work bytes).line.kind ≡ (read_of bytes).fields.kind) × (1 ≤ (read_of bytes).fields.kind)
+      → ((step_of s store work bytes).line.kind ≡ kind_of bytes) × (1 ≤ kind_of bytes)
   -- a refused start leaves what was before any start, so that another may follow
-  pub unstarted : (store work : List Float) (f : Fields) → ((start_step store f work).line.number ≡ 0 → ⊥)
-      → ((start_step store f work).session ≡ new_session) × ((start_step store f work).store ≡ store) × ((start_step store f work).work ≡ work)
+  pub unstarted : (store work : List Float) (n d exponent : ℕ) (epsilon clamp : Float) → (let l = start_step store n d exponent epsilon clamp work in
+      (l.line.number ≡ 0 → ⊥) → (l.session ≡ new_session) × (l.store ≡ store) × (l.work ≡ work))

@@ -1,7 +1,7 @@
 -- One step of a run: what a record's bytes do to a session, and the line that is printed for them.
-use Rattle.std.specs.Prelude.{ℕ, Bool, true, false, not, cond, ◌&&◌, List, eqb, Float}
+use Rattle.std.specs.Prelude.{ℕ, Bool, true, false, not, cond, List, Float, Option, Some, None, Result, Ok, Err}
+use Rattle.complex.specs.declared.Complex.{Complex}
 use Rattle.gates.specs.declared.NamedGate.{NamedGate}
-use Rattle.gates.specs.declared.NamedGate.TheVariants.{Swap, Cx, Cz}
 use Rattle.model.specs.declared.Chain.{Chain}
 use Rattle.model.specs.declared.Answer.{Answer}
 use Rattle.model.specs.declared.Answer.TheVariants as answer
@@ -9,10 +9,9 @@ use Rattle.model.specs.Answers.{Value, none, weight, nothing, bit, dimension, Vi
 use Rattle.model.specs.Slots.{held}
 use Rattle.model.specs.Start.{zero_chain}
 use Rattle.model.specs.Calls.{After, Started, start_call, gate_call, named_gate_call, project_call, measure_call, reset_call}
-use Rattle.record.specs.declared.Fields.{Fields}
-use Rattle.record.specs.declared.Read.{Read}
+use Rattle.record.specs.declared.Record.{Record}
+use Rattle.record.specs.declared.Record.TheVariants as a
 use Rattle.record.specs.Reading.{read_of}
-use Rattle.record.specs.GateBytes.{gate_read}
 use Rattle.lines.specs.declared.Detail.{Detail}
 use Rattle.lines.specs.declared.Detail.TheVariants.{Empty, Kept, Nothing, Bit}
 use Rattle.lines.specs.declared.Line.{Line}
@@ -30,6 +29,11 @@ detail_of (dimension n) = Empty
 
 abbrev pub line_of : ℕ → View → Line
 line_of kind v = record { kind = kind; number = v.number; detail = detail_of v.value }
+
+-- the line of what an accepted call says, or of the number that refused it
+abbrev pub line_said : ℕ → Result Detail ℕ → Line
+line_said kind (Ok d) = record { kind = kind; number = 0; detail = d }
+line_said kind (Err k) = record { kind = kind; number = k; detail = Empty }
 
 -- `0 8`, after which reading stops
 abbrev pub stop_line : Line
@@ -68,54 +72,54 @@ abbrev pub after_start : Started → List Float → Left
 after_start s work = left (session (is_done s.answer) s.chain) (line_of 1 (view_answer s.answer)) s.store work
 
 -- for every work slice, of which start needs none
-unfoldable pub start_step : List Float → Fields → List Float → Left
-start_step store f work = after_start (start_call f.n f.d f.epsilon f.clamp f.exponent store) work
+unfoldable pub start_step : List Float → ℕ → ℕ → ℕ → Float → Float → List Float → Left
+start_step store n d exponent epsilon clamp work = after_start (start_call n d epsilon clamp exponent store) work
 
 abbrev pub after_call : {A : Type 0} → ℕ → (A → View) → After A → Left
 after_call kind view a = left (session true a.chain) (line_of kind (view a.answer)) a.store a.work
 
-unfoldable pub gate_step : Chain → List Float → List Float → Fields → List ℕ → Left
-gate_step c store work f bytes = after_call 2 view_applied (gate_call (held c store) work f.q0 f.q1 (gate_read bytes))
+unfoldable pub gate_step : Chain → List Float → List Float → ℕ → ℕ → List (List Complex) → Left
+gate_step c store work q0 q1 gate = after_call 2 view_applied (gate_call (held c store) work q0 q1 gate)
 
--- the codes of a record that reads are 0, 1 and 2
-abbrev pub name_of : ℕ → NamedGate
-name_of code = cond (eqb code 0) Swap (cond (eqb code 1) Cx Cz)
+unfoldable pub named_gate_step : Chain → List Float → List Float → ℕ → ℕ → NamedGate → Left
+named_gate_step c store work q0 q1 name = after_call 3 view_applied (named_gate_call (held c store) work q0 q1 name)
 
-unfoldable pub named_gate_step : Chain → List Float → List Float → Fields → Left
-named_gate_step c store work f = after_call 3 view_applied (named_gate_call (held c store) work f.q0 f.q1 (name_of f.code))
+unfoldable pub projection_step : Chain → List Float → List Float → ℕ → Bool → Left
+projection_step c store work qubit outcome = after_call 4 view_projected (project_call (held c store) work qubit outcome)
 
-unfoldable pub projection_step : Chain → List Float → List Float → Fields → Left
-projection_step c store work f = after_call 4 view_projected (project_call (held c store) work f.q0 (eqb f.bit 1))
+unfoldable pub measure_step : Chain → List Float → List Float → ℕ → ℕ → Float → Left
+measure_step c store work qubit flag draw = after_call 5 view_measured (measure_call (held c store) work qubit flag draw)
 
-unfoldable pub measure_step : Chain → List Float → List Float → Fields → Left
-measure_step c store work f = after_call 5 view_measured (measure_call (held c store) work f.q0 f.flag f.draw)
+unfoldable pub reset_step : Chain → List Float → List Float → ℕ → Float → Left
+reset_step c store work qubit draw = after_call 6 view_answer (reset_call (held c store) work qubit draw)
 
-unfoldable pub reset_step : Chain → List Float → List Float → Fields → Left
-reset_step c store work f = after_call 6 view_answer (reset_call (held c store) work f.q0 f.draw)
-
-unfoldable pub kind_step : ℕ → Session → List Float → List Float → Fields → List ℕ → Left
-kind_step kind s store work f bytes =
-    cond (eqb kind 1) (start_step store f work)
-    (cond (eqb kind 2) (gate_step s.chain store work f bytes)
-    (cond (eqb kind 3) (named_gate_step s.chain store work f)
-    (cond (eqb kind 4) (projection_step s.chain store work f)
-    (cond (eqb kind 5) (measure_step s.chain store work f)
-    (cond (eqb kind 6) (reset_step s.chain store work f)
-    (turned_away s store work))))))
+unfoldable pub kind_step : Session → List Float → List Float → Record → Left
+kind_step s store work (a.Start n d exponent epsilon clamp) = start_step store n d exponent epsilon clamp work
+kind_step s store work (a.Gate q0 q1 gate) = gate_step s.chain store work q0 q1 gate
+kind_step s store work (a.NamedGate q0 q1 name) = named_gate_step s.chain store work q0 q1 name
+kind_step s store work (a.Projection qubit outcome) = projection_step s.chain store work qubit outcome
+kind_step s store work (a.Measure qubit flag draw) = measure_step s.chain store work qubit flag draw
+kind_step s store work (a.Reset qubit draw) = reset_step s.chain store work qubit draw
 
 -- ---- the step
 
 -- a start as long as none was accepted, and anything else once one was
-unfoldable pub in_turn : Bool → ℕ → Bool
-in_turn started kind = cond (eqb kind 1) (not started) started
+unfoldable pub in_turn : Bool → Record → Bool
+in_turn started (a.Start n d exponent epsilon clamp) = not started
+in_turn started (a.Gate q0 q1 gate) = started
+in_turn started (a.NamedGate q0 q1 name) = started
+in_turn started (a.Projection qubit outcome) = started
+in_turn started (a.Measure qubit flag draw) = started
+in_turn started (a.Reset qubit draw) = started
 
 -- a record that reads and may come now
-abbrev pub obeys : Session → Read → Bool
-obeys s r = eqb r.refused 0 && in_turn s.started r.fields.kind
+abbrev pub obeys : Session → Option Record → Bool
+obeys s None = false
+obeys s (Some r) = in_turn s.started r
 
-abbrev pub read_step : Session → List Float → List Float → List ℕ → Read → Left
-read_step s store work bytes r =
-    cond (obeys s r) (kind_step r.fields.kind s store work r.fields bytes) (turned_away s store work)
+abbrev pub read_step : Session → List Float → List Float → Option Record → Left
+read_step s store work None = turned_away s store work
+read_step s store work (Some r) = cond (in_turn s.started r) (kind_step s store work r) (turned_away s store work)
 
 unfoldable pub step_of : Session → List Float → List Float → List ℕ → Left
-step_of s store work bytes = read_step s store work bytes (read_of bytes)
+step_of s store work bytes = read_step s store work (read_of bytes)

@@ -2,17 +2,17 @@
 // store and the work slice, and which line is printed, is defined in specs/Session.antt.
 #![tactic(auto)]
 
-ghost use Rattle.std.specs.Prelude.{◌≡◌};
+ghost use Rattle.std.specs.Prelude.{◌≡◌, ℕ};
 ghost use Rattle.model.specs.Answers.{view_answer, view_applied, view_projected, view_measured};
-ghost use Rattle.session.specs.Session.{left, new_session, line_of, stop_line, is_done, name_of, in_turn, start_step, gate_step, named_gate_step, projection_step, measure_step, reset_step, kind_step, step_of};
+ghost use Rattle.session.specs.Session.{left, session, new_session, line_of, line_said, stop_line, is_done, in_turn, start_step, kind_step, step_of};
 
 use chain::{apply_gate, apply_named_gate, measure, project, reset, start};
-use gates::NamedGate;
 use lines::{Detail, Line};
 use model::{Answer, Applied, Chain, Measured, Projected};
-use record::{Fields, read_gate, read_record};
+use record::{Record, read_record};
 
 // A run so far: whether a start was accepted, and the chain. Its amplitudes lie in the store that is lent to each step.
+// A flag and not an Option: a session has a chain before any start too, the all-zero record that `new_session` promises.
 #[derive(Clone, Copy)]
 pub struct Session {
     pub started: bool,
@@ -39,84 +39,70 @@ pub fn new_session() -> Session
     }
 }
 
-// ---- lines
+// ---- what each call answers, as a line says it: what follows the two numbers, or the number that refused it
 
-// The line of a start or a reset.
-fn answer_line(kind: u8, answer: Answer) -> Line
-    ensures { result ≡ line_of kind (view_answer answer) }
+// Of a start or a reset.
+fn said_answer(answer: Answer) -> Result<Detail, u8>
+    ensures { (kind : ℕ) → line_said kind result ≡ line_of kind (view_answer answer) }
 {
     match answer {
-        Answer::Done => Line {
-            kind: kind,
-            number: 0,
-            detail: Detail::Empty,
-        },
-        Answer::Refused(k) => Line {
-            kind: kind,
-            number: k,
-            detail: Detail::Empty,
-        },
+        Answer::Done => Ok(Detail::Empty),
+        Answer::Refused(number) => Err(number),
     }
 }
 
-// The line of a gate, by matrix or by name.
-fn applied_line(kind: u8, answer: Applied) -> Line
-    ensures { result ≡ line_of kind (view_applied answer) }
+// Of a gate, by matrix or by name. Its reason is not printed.
+fn said_applied(answer: Applied) -> Result<Detail, u8>
+    ensures { (kind : ℕ) → line_said kind result ≡ line_of kind (view_applied answer) }
 {
     match answer {
-        Applied::Done(_) => Line {
-            kind: kind,
-            number: 0,
-            detail: Detail::Empty,
-        },
-        Applied::Refused(k) => Line {
-            kind: kind,
-            number: k,
-            detail: Detail::Empty,
-        },
+        Applied::Done(_) => Ok(Detail::Empty),
+        Applied::Refused(number) => Err(number),
     }
 }
 
-fn projected_line(answer: Projected) -> Line
-    ensures { result ≡ line_of 4 (view_projected answer) }
+fn said_projected(answer: Projected) -> Result<Detail, u8>
+    ensures { (kind : ℕ) → line_said kind result ≡ line_of kind (view_projected answer) }
 {
     match answer {
-        Projected::Kept(weight) => Line {
-            kind: 4,
-            number: 0,
-            detail: Detail::Kept(weight),
-        },
-        Projected::Nothing => Line {
-            kind: 4,
-            number: 0,
-            detail: Detail::Nothing,
-        },
-        Projected::Refused(k) => Line {
-            kind: 4,
-            number: k,
-            detail: Detail::Empty,
-        },
+        Projected::Kept(weight) => Ok(Detail::Kept(weight)),
+        Projected::Nothing => Ok(Detail::Nothing),
+        Projected::Refused(number) => Err(number),
     }
 }
 
-fn measured_line(answer: Measured) -> Line
-    ensures { result ≡ line_of 5 (view_measured answer) }
+fn said_measured(answer: Measured) -> Result<Detail, u8>
+    ensures { (kind : ℕ) → line_said kind result ≡ line_of kind (view_measured answer) }
 {
     match answer {
-        Measured::Bit(bit) => Line {
-            kind: 5,
-            number: 0,
-            detail: Detail::Bit(bit),
-        },
-        Measured::Refused(k) => Line {
-            kind: 5,
-            number: k,
-            detail: Detail::Empty,
-        },
+        Measured::Bit(bit) => Ok(Detail::Bit(bit)),
+        Measured::Refused(number) => Err(number),
     }
 }
 
 // ---- each kind of record
+
+// The session and the line that a call leaves.
+fn left_by(kind: u8, started: bool, chain: Chain, said: Result<Detail, u8>) -> Stepped
+    ensures session_value { result.session ≡ session started chain }
+    ensures line_value { result.line ≡ line_said kind said }
+{
+    let (number, detail) = match said {
+        Ok(detail) => (0, detail),
+        Err(number) => (number, Detail::Empty),
+    };
+    Stepped {
+        session: Session {
+            started: started,
+            chain: chain,
+        },
+        line: Line {
+            kind: kind,
+            number: number,
+            detail: detail,
+        },
+    }
+}
 
 fn is_done(answer: Answer) -> bool
     ensures { result ≡ is_done answer }
@@ -127,119 +113,50 @@ fn is_done(answer: Answer) -> bool
     }
 }
 
-fn start_record(store: &mut [f64], f: Fields) -> Stepped
-    ensures { left result.session result.line store.new ≡ start_step store.old f }
+// A refused start counts for nothing.
+fn start_record(store: &mut [f64], n: u8, d: u8, exponent: u8, epsilon: f64, clamp: f64) -> Stepped
+    ensures { left result.session result.line store.new ≡ start_step store.old n d exponent epsilon clamp }
 {
-    let out = start(
-        f.n as usize,
-        f.d as usize,
-        f.epsilon,
-        f.clamp,
-        f.exponent,
-        store,
-    );
+    let (n, d) = (usize::from(n), usize::from(d));
+    let out = start(n, d, epsilon, clamp, exponent, store);
     let answer = out.answer;
-    let chain = out.chain;
-    Stepped {
-        session: Session {
-            started: is_done(answer),
-            chain: chain,
-        },
-        line: answer_line(1, answer),
-    }
+    left_by(1, is_done(answer), out.chain, said_answer(answer))
 }
 
-fn gate_record(
-    chain: Chain,
-    store: &mut [f64],
-    work: &mut [f64],
-    f: Fields,
-    bytes: &[u8],
-) -> Stepped
-    ensures { left result.session result.line store.new work.new ≡ gate_step chain store.old work.old f bytes.now }
+// A record that may come now.
+fn kind_record(session: Session, store: &mut [f64], work: &mut [f64], read: Record) -> Stepped
+    ensures { left result.session result.line store.new work.new ≡ kind_step session store.old work.old read }
 {
-    let gate = read_gate(bytes);
-    let out = apply_gate(chain, store, work, f.q0 as usize, f.q1 as usize, gate);
-    let answer = out.answer;
-    let after = out.chain;
-    Stepped {
-        session: Session {
-            started: true,
-            chain: after,
-        },
-        line: applied_line(2, answer),
-    }
-}
-
-// The gate of a code: 0 Swap, 1 Cx, 2 Cz.
-fn name_of(code: u8) -> NamedGate
-    ensures { result ≡ name_of code }
-{
-    match code {
-        0 => NamedGate::Swap,
-        1 => NamedGate::Cx,
-        _ => NamedGate::Cz,
-    }
-}
-
-fn named_gate_record(chain: Chain, store: &mut [f64], work: &mut [f64], f: Fields) -> Stepped
-    ensures { left result.session result.line store.new work.new ≡ named_gate_step chain store.old work.old f }
-{
-    let name = name_of(f.code);
-    let out = apply_named_gate(chain, store, work, f.q0 as usize, f.q1 as usize, name);
-    let answer = out.answer;
-    let after = out.chain;
-    Stepped {
-        session: Session {
-            started: true,
-            chain: after,
-        },
-        line: applied_line(3, answer),
-    }
-}
-
-fn projection_record(chain: Chain, store: &mut [f64], work: &mut [f64], f: Fields) -> Stepped
-    ensures { left result.session result.line store.new work.new ≡ projection_step chain store.old work.old f }
-{
-    let out = project(chain, store, work, f.q0 as usize, f.bit == 1);
-    let answer = out.answer;
-    let after = out.chain;
-    Stepped {
-        session: Session {
-            started: true,
-            chain: after,
-        },
-        line: projected_line(answer),
-    }
-}
-
-fn measure_record(chain: Chain, store: &mut [f64], work: &mut [f64], f: Fields) -> Stepped
-    ensures { left result.session result.line store.new work.new ≡ measure_step chain store.old work.old f }
-{
-    let out = measure(chain, store, work, f.q0 as usize, f.flag as usize, f.draw);
-    let answer = out.answer;
-    let after = out.chain;
-    Stepped {
-        session: Session {
-            started: true,
-            chain: after,
-        },
-        line: measured_line(answer),
-    }
-}
-
-fn reset_record(chain: Chain, store: &mut [f64], work: &mut [f64], f: Fields) -> Stepped
-    ensures { left result.session result.line store.new work.new ≡ reset_step chain store.old work.old f }
-{
-    let out = reset(chain, store, work, f.q0 as usize, f.draw);
-    let answer = out.answer;
-    let after = out.chain;
-    Stepped {
-        session: Session {
-            started: true,
-            chain: after,
-        },
-        line: answer_line(6, answer),
+    let chain = session.chain;
+    match read {
+        Record::Start {
+            n,
+            d,
+            exponent,
+            epsilon,
+            clamp,
+        } => start_record(store, n, d, exponent, epsilon, clamp),
+        Record::Gate { q0, q1, gate } => {
+            let out = apply_gate(chain, store, work, usize::from(q0), usize::from(q1), gate);
+            left_by(2, true, out.chain, said_applied(out.answer))
+        }
+        Record::NamedGate { q0, q1, name } => {
+            let out = apply_named_gate(chain, store, work, usize::from(q0), usize::from(q1), name);
+            left_by(3, true, out.chain, said_applied(out.answer))
+        }
+        Record::Projection { qubit, bit } => {
+            let out = project(chain, store, work, usize::from(qubit), bit);
+            left_by(4, true, out.chain, said_projected(out.answer))
+        }
+        Record::Measure { qubit, flag, draw } => {
+            let flag = usize::from(flag);
+            let out = measure(chain, store, work, usize::from(qubit), flag, draw);
+            left_by(5, true, out.chain, said_measured(out.answer))
+        }
+        Record::Reset { qubit, draw } => {
+            let out = reset(chain, store, work, usize::from(qubit), draw);
+            left_by(6, true, out.chain, said_answer(out.answer))
+        }
     }
 }
 
@@ -259,34 +176,14 @@ fn turned_away(session: Session) -> Stepped
     }
 }
 
-// Whether a record of this kind may come now: a start as long as none was accepted, and anything else once one was.
+// Whether a record may come now: a start as long as none was accepted, and anything else once one was.
 #[tactic(auto, unfolding(crate::specs::Session::in_turn))]
-fn in_turn(started: bool, kind: u16) -> bool
-    ensures { result ≡ in_turn started kind }
+fn in_turn(started: bool, read: Record) -> bool
+    ensures { result ≡ in_turn started read }
 {
-    if kind == 1 { !started } else { started }
-}
-
-// A record that reads and may come now.
-fn kind_record(
-    session: Session,
-    store: &mut [f64],
-    work: &mut [f64],
-    f: Fields,
-    bytes: &[u8],
-) -> Stepped
-    ensures { left result.session result.line store.new work.new ≡ kind_step f.kind session store.old work.old f bytes.now }
-{
-    let chain = session.chain;
-    let kind = f.kind;
-    match kind {
-        1 => start_record(store, f),
-        2 => gate_record(chain, store, work, f, bytes),
-        3 => named_gate_record(chain, store, work, f),
-        4 => projection_record(chain, store, work, f),
-        5 => measure_record(chain, store, work, f),
-        6 => reset_record(chain, store, work, f),
-        _ => turned_away(session),
+    match read {
+        Record::Start { .. } => !started,
+        _ => started,
     }
 }
 
@@ -294,13 +191,8 @@ fn kind_record(
 pub fn step(session: Session, store: &mut [f64], work: &mut [f64], bytes: &[u8]) -> Stepped
     ensures { left result.session result.line store.new work.new ≡ step_of session store.old work.old bytes.now }
 {
-    let read = read_record(bytes);
-    let f = read.fields;
-    if read.refused != 0 {
-        return turned_away(session);
+    match read_record(bytes) {
+        Some(read) if in_turn(session.started, read) => kind_record(session, store, work, read),
+        _ => turned_away(session),
     }
-    if !in_turn(session.started, f.kind) {
-        return turned_away(session);
-    }
-    kind_record(session, store, work, f, bytes)
 }

@@ -1,4 +1,4 @@
-use Rattle.std.proofs.Common.{◌≡◌, ◌-◌, ◌≤◌}
+use Rattle.std.proofs.Common.{◌≡◌, ◌≤◌}
 use Rattle.std.proofs.lemmas.List.Edits.{sets}
 use Rattle.complex.specs.Loops.{tabulate}
 use Rattle.lines.specs.Text.{hex_at}
@@ -9,6 +9,3 @@ invariant-loop-k l = record {
   in_range : l.k ≤ 16;
   digits : l.out ≡ sets l.initial.out l.at (tabulate l.k (hex_at l.x));
 }
-
-abbrev pub decreases-loop-k : goal.decreases-loop-k
-decreases-loop-k l = 16 - l.k

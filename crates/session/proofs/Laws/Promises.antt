@@ -1,7 +1,7 @@
 -- Laws of `specs/Promises.antt`.
-use Rattle.std.specs.Prelude.{ℕ, zero, suc, ◌≤◌, ◌≡◌, Bool, not, ◌&&◌, List, [], ◌∷◌, ◌++◌, eqb, ltb, Float, length}
+use Rattle.std.specs.Prelude.{ℕ, ◌≤◌, ◌≡◌, Bool, not, List, [], ◌∷◌, ◌++◌, ltb, Float, length, Option, Some, None}
 use Rattle.std.proofs.Math.Path.{refl, ap}
-use Rattle.std.proofs.Common.{sym, subst, ◌∙◌, arith}
+use Rattle.std.proofs.Common.{sym, subst, ◌∙◌}
 use Rattle.std.proofs.Math.Bool.{true, false, cond}
 use Rattle.std.proofs.Math.Dec.{T}
 use Rattle.model.specs.declared.Answer.TheVariants as answer
@@ -10,11 +10,13 @@ use Rattle.model.specs.Slots.{store_room}
 use Rattle.model.specs.Sound.{settings_fit}
 use Rattle.model.specs.Start.{zero_chain, fresh_chain, fresh_store}
 use Rattle.model.specs.Calls.{Started, started, start_call}
-use Rattle.record.specs.declared.Fields.{Fields}
-use Rattle.record.specs.Reading.{read_of, read_kind}
+use Rattle.record.specs.declared.Record.{Record}
+use Rattle.record.specs.declared.Record.TheVariants as a
+use Rattle.record.specs.Fields.{kind_of_record}
+use Rattle.record.specs.Reading.{kind_of, read_of, read_kind}
 use Rattle.lines.specs.Text.{decimal, bit_digit, detail_text, line_text}
 use Rattle.session.specs.declared.Session.{Session}
-use Rattle.session.specs.Session.{new_session, detail_of, line_of, turned_away, after_start, start_step, gate_step, named_gate_step, projection_step, measure_step, reset_step, kind_step, obeys, step_of}
+use Rattle.session.specs.Session.{new_session, detail_of, line_of, turned_away, after_start, start_step, gate_step, named_gate_step, projection_step, measure_step, reset_step, kind_step, obeys, read_step, step_of}
 use Rattle.session.specs.Promises.{value_text, answer_text, Promised}
 
 -- ---- proofs
@@ -32,43 +34,44 @@ line_text_lem : (kind : ℕ) (v : View) → line_text (line_of kind v) ≡ answe
 unfolding line_text
 line_text_lem kind v = ap (λ t. decimal kind ++ (32 ∷ []) ++ decimal v.number ++ t ++ (10 ∷ [])) (value_text_lem v.value)
 
-kind_line : (k : ℕ) (s : Session) (store work : List Float) (f : Fields) (bytes : List ℕ) → 1 ≤ k → k ≤ 6 → (kind_step k s store work f bytes).line.kind ≡ k
+kind_line : (s : Session) (store work : List Float) (r : Record) → (kind_step s store work r).line.kind ≡ kind_of_record r
 unfolding start_step gate_step named_gate_step projection_step measure_step reset_step kind_step
-kind_line zero s store work f bytes h l = absurd (omega arith)
-kind_line (suc zero) s store work f bytes h l = refl
-kind_line (suc (suc zero)) s store work f bytes h l = refl
-kind_line (suc (suc (suc zero))) s store work f bytes h l = refl
-kind_line (suc (suc (suc (suc zero)))) s store work f bytes h l = refl
-kind_line (suc (suc (suc (suc (suc zero))))) s store work f bytes h l = refl
-kind_line (suc (suc (suc (suc (suc (suc zero)))))) s store work f bytes h l = refl
-kind_line (suc (suc (suc (suc (suc (suc (suc k))))))) s store work f bytes h l = absurd (omega arith)
+kind_line s store work (a.Start n d exponent epsilon clamp) = refl
+kind_line s store work (a.Gate q0 q1 gate) = refl
+kind_line s store work (a.NamedGate q0 q1 name) = refl
+kind_line s store work (a.Projection qubit outcome) = refl
+kind_line s store work (a.Measure qubit flag draw) = refl
+kind_line s store work (a.Reset qubit draw) = refl
 
-module _ (s : Session) (store work : List Float) (bytes : List ℕ) where
-  turned : obeys s (read_of bytes) ≡ false → step_of s store work bytes ≡ turned_away s store work
+module _ (s : Session) (store work : List Float) where
+  turned : (bytes : List ℕ) → obeys s (read_of bytes) ≡ false → step_of s store work bytes ≡ turned_away s store work
   unfolding step_of
-  turned e = ap (λ (t : Bool). cond t (kind_step (read_of bytes).fields.kind s store work (read_of bytes).fields bytes) (turned_away s store work)) e
-
-  done : obeys s (read_of bytes) ≡ true → ((step_of s store work bytes).line.kind ≡ (read_of bytes).fields.kind) × (1 ≤ (read_of bytes).fields.kind)
-  unfolding step_of
-  done e =
-      let k = (read_of bytes).fields.kind in
-      let h = read_kind bytes (left_part (eqb (read_of bytes).refused 0) _ e) in
-      (ap (λ (t : Bool). (cond t (kind_step k s store work (read_of bytes).fields bytes) (turned_away s store work)).line.kind) e ∙ kind_line k s store work (read_of bytes).fields bytes h.0 h.1, h.0)
+  turned bytes = by (read_of bytes)
     where
-      left_part : (a b : Bool) → (a && b) ≡ true → a ≡ true
-      left_part true b e = refl
-      left_part false b e = absurd (subst T (sym e) tt)
+      by : (r : Option Record) → obeys s r ≡ false → read_step s store work r ≡ turned_away s store work
+      by None e = refl
+      by (Some r) e = ap (λ (t : Bool). cond t (kind_step s store work r) (turned_away s store work)) e
 
-no_start : (store work : List Float) (f : Fields) → ((start_step store f work).line.number ≡ 0 → ⊥)
-    → ((start_step store f work).session ≡ new_session) × ((start_step store f work).store ≡ store) × ((start_step store f work).work ≡ work)
+  done : (bytes : List ℕ) → obeys s (read_of bytes) ≡ true → ((step_of s store work bytes).line.kind ≡ kind_of bytes) × (1 ≤ kind_of bytes)
+  unfolding step_of
+  done bytes = by (read_of bytes) refl
+    where
+      by : (o : Option Record) → read_of bytes ≡ o → obeys s o ≡ true → ((read_step s store work o).line.kind ≡ kind_of bytes) × (1 ≤ kind_of bytes)
+      by None z e = absurd (subst T (sym e) tt)
+      by (Some r) z e =
+          let k = read_kind bytes r z in
+          (ap (λ (t : Bool). (cond t (kind_step s store work r) (turned_away s store work)).line.kind) e ∙ kind_line s store work r ∙ k.0, k.1)
+
+no_start : (store work : List Float) (n d exponent : ℕ) (epsilon clamp : Float) → (let l = start_step store n d exponent epsilon clamp work in
+    (l.line.number ≡ 0 → ⊥) → (l.session ≡ new_session) × (l.store ≡ store) × (l.work ≡ work))
 unfolding start_step start_call
-no_start store work f h = by (not (settings_fit f.n f.d f.epsilon f.clamp f.exponent)) (ltb (length store) (store_room f.n f.d)) h
+no_start store work n d exponent epsilon clamp h = by (not (settings_fit n d epsilon clamp exponent)) (ltb (length store) (store_room n d)) h
   where
     x : Bool → Bool → Started
     x a b =
         cond a (started (answer.Refused 1) zero_chain store)
         (cond b (started (answer.Refused 2) zero_chain store)
-        (started answer.Done (fresh_chain f.n f.d f.epsilon f.clamp f.exponent) (fresh_store f.n f.d store)))
+        (started answer.Done (fresh_chain n d epsilon clamp exponent) (fresh_store n d store)))
 
     by : (a b : Bool) → ((after_start (x a b) work).line.number ≡ 0 → ⊥) → ((after_start (x a b) work).session ≡ new_session) × ((after_start (x a b) work).store ≡ store) × ((after_start (x a b) work).work ≡ work)
     by true b h = (refl, refl, refl)

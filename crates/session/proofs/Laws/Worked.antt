@@ -13,18 +13,18 @@ module _ (store work : List Float) where
   module _ (s : Session) where
     pub unknown_kind : step_of s store work (0x02 ∷ 0x00 ∷ 0x09 ∷ 0x00 ∷ []) ≡ turned_away s store work
     unfolding step_of
-    unknown_kind = ap (read_step s store work (0x02 ∷ 0x00 ∷ 0x09 ∷ 0x00 ∷ [])) kind_nine_lem
+    unknown_kind = ap (read_step s store work) kind_nine_lem
 
     pub cut_off : step_of s store work (0x04 ∷ 0x00 ∷ 0x04 ∷ 0x00 ∷ 0x00 ∷ []) ≡ turned_away s store work
     unfolding step_of
-    cut_off = ap (read_step s store work (0x04 ∷ 0x00 ∷ 0x04 ∷ 0x00 ∷ 0x00 ∷ [])) one_too_few
+    cut_off = ap (read_step s store work) one_too_few
 
   -- a start after an accepted one, and a projection before one
   module _ (c : Chain) where
     pub second_start : step_of (session true c) store work whole_case ≡ turned_away (session true c) store work
     unfolding step_of in_turn
-    second_start = ap (read_step (session true c) store work whole_case) first_record
+    second_start = ap (read_step (session true c) store work) first_record
 
     pub no_start : step_of (session false c) store work (next (next whole_case)) ≡ turned_away (session false c) store work
     unfolding step_of in_turn
-    no_start = ap (read_step (session false c) store work (next (next whole_case))) third_record
+    no_start = ap (read_step (session false c) store work) third_record
