@@ -1,11 +1,9 @@
 -- One step of a run: what a record's bytes do to a session, and the line that is printed for them.
-use Rattle.std.specs.Prelude.{ℕ, Bool, true, false, not, cond, List, Float, Option, Some, None, Result, Ok, Err}
+use Rattle.std.specs.Prelude.{ℕ, Bool, true, false, not, cond, List, Float, Option, Some, None, Result, Ok, Err, is_ok}
 use Rattle.complex.specs.declared.Complex.{Complex}
 use Rattle.gates.specs.declared.NamedGate.{NamedGate}
 use Rattle.model.specs.declared.Chain.{Chain}
-use Rattle.model.specs.declared.Answer.{Answer}
-use Rattle.model.specs.declared.Answer.TheVariants as answer
-use Rattle.model.specs.Answers.{Value, none, weight, nothing, bit, dimension, View, view_answer, view_applied, view_projected, view_measured}
+use Rattle.model.specs.Answers.{Answer, Value, none, weight, nothing, bit, dimension, View, view_answer, view_applied, view_projected, view_measured}
 use Rattle.model.specs.Slots.{held}
 use Rattle.model.specs.Start.{zero_chain}
 use Rattle.model.specs.Calls.{After, Started, start_call, gate_call, named_gate_call, project_call, measure_call, reset_call}
@@ -64,8 +62,7 @@ turned_away s store work = left s stop_line store work
 -- ---- each kind of record: its call with the record's fields, and the call's answer as a line
 
 abbrev pub is_done : Answer → Bool
-is_done answer.Done = true
-is_done (answer.Refused k) = false
+is_done a = is_ok a
 
 -- a refused start counts for nothing
 abbrev pub after_start : Started → List Float → Left

@@ -4,7 +4,7 @@
 
 ghost use Rattle.std.specs.Prelude.{◌≡◌, ℕ};
 ghost use Rattle.model.specs.Answers.{view_answer, view_applied, view_projected, view_measured};
-ghost use Rattle.session.specs.Session.{left, session, new_session, line_of, line_said, stop_line, is_done, in_turn, start_step, kind_step, step_of};
+ghost use Rattle.session.specs.Session.{left, session, new_session, line_of, line_said, stop_line, in_turn, start_step, kind_step, step_of};
 
 use chain::{apply_gate, apply_named_gate, measure, project, reset, start};
 use lines::{Detail, Line};
@@ -45,20 +45,14 @@ pub fn new_session() -> Session
 fn said_answer(answer: Answer) -> Result<Detail, u8>
     ensures { (kind : ℕ) → line_said kind result ≡ line_of kind (view_answer answer) }
 {
-    match answer {
-        Answer::Done => Ok(Detail::Empty),
-        Answer::Refused(number) => Err(number),
-    }
+    answer.map(|()| Detail::Empty)
 }
 
 // Of a gate, by matrix or by name. Its reason is not printed.
 fn said_applied(answer: Applied) -> Result<Detail, u8>
     ensures { (kind : ℕ) → line_said kind result ≡ line_of kind (view_applied answer) }
 {
-    match answer {
-        Applied::Done(_) => Ok(Detail::Empty),
-        Applied::Refused(number) => Err(number),
-    }
+    answer.map(|_| Detail::Empty)
 }
 
 fn said_projected(answer: Projected) -> Result<Detail, u8>
@@ -74,10 +68,7 @@ fn said_projected(answer: Projected) -> Result<Detail, u8>
 fn said_measured(answer: Measured) -> Result<Detail, u8>
     ensures { (kind : ℕ) → line_said kind result ≡ line_of kind (view_measured answer) }
 {
-    match answer {
-        Measured::Bit(bit) => Ok(Detail::Bit(bit)),
-        Measured::Refused(number) => Err(number),
-    }
+    answer.map(Detail::Bit)
 }
 
 // ---- each kind of record
@@ -104,23 +95,13 @@ fn left_by(kind: u8, started: bool, chain: Chain, said: Result<Detail, u8>) -> S
     }
 }
 
-fn is_done(answer: Answer) -> bool
-    ensures { result ≡ is_done answer }
-{
-    match answer {
-        Answer::Done => true,
-        Answer::Refused(_) => false,
-    }
-}
-
 // A refused start counts for nothing.
 fn start_record(store: &mut [f64], n: u8, d: u8, exponent: u8, epsilon: f64, clamp: f64) -> Stepped
     ensures { left result.session result.line store.new ≡ start_step store.old n d exponent epsilon clamp }
 {
     let (n, d) = (usize::from(n), usize::from(d));
     let out = start(n, d, epsilon, clamp, exponent, store);
-    let answer = out.answer;
-    left_by(1, is_done(answer), out.chain, said_answer(answer))
+    left_by(1, out.answer.is_ok(), out.chain, said_answer(out.answer))
 }
 
 // A record that may come now.

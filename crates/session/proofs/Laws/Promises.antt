@@ -4,7 +4,7 @@ use Rattle.std.proofs.Math.Path.{refl, ap}
 use Rattle.std.proofs.Common.{sym, subst, ◌∙◌}
 use Rattle.std.proofs.Math.Bool.{true, false, cond}
 use Rattle.std.proofs.Math.Dec.{T}
-use Rattle.model.specs.declared.Answer.TheVariants as answer
+use Rattle.std.specs.Prelude.{Ok, Err}
 use Rattle.model.specs.Answers.{Value, none, weight, nothing, bit, dimension, View}
 use Rattle.model.specs.Slots.{store_room}
 use Rattle.model.specs.Sound.{settings_fit}
@@ -69,9 +69,9 @@ no_start store work n d exponent epsilon clamp h = by (not (settings_fit n d eps
   where
     x : Bool → Bool → Started
     x a b =
-        cond a (started (answer.Refused 1) zero_chain store)
-        (cond b (started (answer.Refused 2) zero_chain store)
-        (started answer.Done (fresh_chain n d epsilon clamp exponent) (fresh_store n d store)))
+        cond a (started (Err 1) zero_chain store)
+        (cond b (started (Err 2) zero_chain store)
+        (started (Ok tt) (fresh_chain n d epsilon clamp exponent) (fresh_store n d store)))
 
     by : (a b : Bool) → ((after_start (x a b) work).line.number ≡ 0 → ⊥) → ((after_start (x a b) work).session ≡ new_session) × ((after_start (x a b) work).store ≡ store) × ((after_start (x a b) work).work ≡ work)
     by true b h = (refl, refl, refl)

@@ -5,7 +5,7 @@ use Rattle.std.proofs.Common.{◌∙◌}
 use Rattle.std.proofs.Math.Bool.{cond}
 use Rattle.complex.specs.Complex.{zero_f}
 use Rattle.model.specs.declared.Chain.{Chain}
-use Rattle.model.specs.declared.Answer.{Answer}
+use Rattle.model.specs.Answers.{Answer}
 use Rattle.model.specs.Answers.{View, view_answer}
 use Rattle.model.specs.Slots.{held}
 use Rattle.model.specs.Calls.{After, after, Started, started, start_call}
