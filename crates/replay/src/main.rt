@@ -3,34 +3,21 @@
 // A stream in the list is its length in bytes, 4 bytes least first, and its records.
 #![tactic(auto)]
 
-ghost use Rattle.std.specs.Prelude.{◌≡◌, ◌≤◌, ◌<◌, length, take, IfOk, OnOk};
-ghost use Rattle.std.specs.Io.KnownBytes.{Appends};
+ghost use Rattle.std.specs.Prelude.{◌≤◌, ◌<◌, length, IfOk};
 
-use bytes_le::u32_at;
 use lines::{Line, write_line};
 use record::more_bytes;
 use session::{Session, new_session, step};
-use state_text::{write_state, write_text};
+use state_text::write_state;
 use std::io;
 use std::io::{Read, Write};
 
 // ---- records
 
-// The first n bytes, where there are so many.
-fn write_front<W: Write>(writer: &mut W, text: &[u8], n: usize) -> io::Result<()>
-    ensures { OnOk result (n ≤ length text.now → Appends (W.contents writer.old) (W.contents writer.new) (take n text.now)) }
-{
-    if n <= text.len() {
-        write_text(writer, &text[..n])
-    } else {
-        Ok(())
-    }
-}
-
 fn write_answer<W: Write>(writer: &mut W, line: Line) -> io::Result<()> {
     let mut text = [0u8; 32];
     let n = write_line(&mut text, line);
-    write_front(writer, &text, n)
+    writer.write_all(text.get(..n).unwrap_or(&[]))
 }
 
 // Where the record behind the one at an index begins, or the stream's end.
@@ -44,20 +31,10 @@ fn next(bytes: &[u8], at: usize) -> usize
         return bytes.len();
     }
     let more = more_bytes(bytes[at], bytes[at + 1]);
-    if more <= left - 2 {
-        at + 2 + more
-    } else {
-        bytes.len()
-    }
+    at + 2 + more.min(left - 2)
 }
 
-// One record: its line, then the state if there is a chain. A session after which reading goes on.
-#[derive(Clone, Copy)]
-struct Turn {
-    session: Session,
-    stops: bool,
-}
-
+// One record: its line, then the state if there is a chain. The session after it, unless reading stops.
 fn replay_record<W: Write>(
     writer: &mut W,
     session: Session,
@@ -65,20 +42,17 @@ fn replay_record<W: Write>(
     work: &mut [f64],
     out: &mut [f64],
     bytes: &[u8],
-) -> io::Result<Turn> {
+) -> io::Result<Option<Session>> {
     let stepped = step(session, store, work, bytes);
-    let line = stepped.line;
     let session = stepped.session;
-    write_answer(writer, line)?;
-    let stops = line.number == 8;
-    if session.started && !stops {
-        let chain = session.chain;
-        write_state(writer, chain, store, work, out)?;
+    write_answer(writer, stepped.line)?;
+    if stepped.line.number == 8 {
+        return Ok(None);
     }
-    Ok(Turn {
-        session: session,
-        stops: stops,
-    })
+    if session.started {
+        write_state(writer, &session.chain, store, work, out)?;
+    }
+    Ok(Some(session))
 }
 
 fn replay_records<W: Write>(
@@ -91,11 +65,10 @@ fn replay_records<W: Write>(
     let mut session = new_session();
     let mut at: usize = 0;
     while at < bytes.len() {
-        let turn = replay_record(writer, session, store, work, out, &bytes[at..])?;
-        if turn.stops {
-            break;
+        match replay_record(writer, session, store, work, out, &bytes[at..])? {
+            None => break,
+            Some(after) => session = after,
         }
-        session = turn.session;
         at = next(bytes, at);
     }
     Ok(())
@@ -121,59 +94,37 @@ fn read_full<R: Read>(reader: &mut R, bytes: &mut [u8]) -> io::Result<usize>
         if got == 0 {
             break;
         }
-        done = done + got;
+        done += got;
     }
     Ok(done)
 }
 
-// The length of the next stream; at the list's end what no length of 4 bytes can be.
-fn read_length<R: Read>(reader: &mut R) -> io::Result<usize> {
+// The length of the next stream; none at the list's end.
+fn read_length<R: Read>(reader: &mut R) -> io::Result<Option<usize>> {
     let mut bytes = [0u8; 4];
     let n = read_full(reader, &mut bytes)?;
     if n < 4 {
-        return Ok(usize::MAX);
+        return Ok(None);
     }
-    Ok(u32_at(&bytes, 0) as usize)
-}
-
-// Reads n bytes to the slice's start, and answers whether it holds so many and there were so many.
-fn read_front<R: Read>(reader: &mut R, bytes: &mut [u8], n: usize) -> io::Result<bool> {
-    if bytes.len() < n {
-        return Ok(false);
-    }
-    let got = read_full(reader, &mut bytes[..n])?;
-    Ok(got == n)
-}
-
-fn replay_front<W: Write>(writer: &mut W, bytes: &[u8], n: usize) -> io::Result<()> {
-    if n <= bytes.len() {
-        replay_stream(writer, &bytes[..n])
-    } else {
-        Ok(())
-    }
-}
-
-fn write_refused<W: Write>(writer: &mut W, number: u64) -> io::Result<()> {
-    writeln!(writer, "stream {number} refused: longer than 4096 bytes")
+    Ok(Some(u32::from_le_bytes(bytes) as usize))
 }
 
 // The next stream under its number, and whether there was one. One that is longer than the buffer is refused, and ends
 // the list.
 fn replay_next<R: Read, W: Write>(reader: &mut R, writer: &mut W, number: u64) -> io::Result<bool> {
-    let mut bytes = [0u8; 4096];
-    let size = read_length(reader)?;
-    if size == usize::MAX {
+    let mut buffer = [0u8; 4096];
+    let Some(size) = read_length(reader)? else {
         return Ok(false);
-    }
-    if bytes.len() < size {
-        write_refused(writer, number)?;
+    };
+    let Some(bytes) = buffer.get_mut(..size) else {
+        writeln!(writer, "stream {number} refused: longer than 4096 bytes")?;
         return Ok(false);
-    }
-    if !read_front(reader, &mut bytes, size)? {
+    };
+    if read_full(reader, bytes)? < size {
         return Ok(false);
     }
     writeln!(writer, "stream {number}")?;
-    replay_front(writer, &bytes, size)?;
+    replay_stream(writer, bytes)?;
     Ok(true)
 }
 
