@@ -21,27 +21,21 @@ pub fn u16_at(s: &[u8], at: usize) -> u16
     requires { at + 2 ≤ length s.now }
     ensures { result ≡ value (part at (at + 2) s.now) }
 {
-    let low = u8_at(s, at) as u16;
-    let high = u8_at(s, at + 1) as u16;
-    low + 0x100 * high
+    u16::from_le_bytes([s[at], s[at + 1]])
 }
 
 pub fn u32_at(s: &[u8], at: usize) -> u32
     requires { at + 4 ≤ length s.now }
     ensures { result ≡ value (part at (at + 4) s.now) }
 {
-    let low = u16_at(s, at) as u32;
-    let high = u16_at(s, at + 2) as u32;
-    low + 0x1_0000 * high
+    u32::from_le_bytes([s[at], s[at + 1], s[at + 2], s[at + 3]])
 }
 
 pub fn u64_at(s: &[u8], at: usize) -> u64
     requires { at + 8 ≤ length s.now }
     ensures { result ≡ value (part at (at + 8) s.now) }
 {
-    let low = u32_at(s, at) as u64;
-    let high = u32_at(s, at + 4) as u64;
-    low + 0x1_0000_0000 * high
+    u64::from_le_bytes([s[at], s[at + 1], s[at + 2], s[at + 3], s[at + 4], s[at + 5], s[at + 6], s[at + 7]])
 }
 
 // ---- an f64 by its bits
@@ -52,7 +46,7 @@ pub fn from_bits(bits: u64) -> f64
     ensures { result ≡ of_bits binary64 bits }
 {
     if bits % 0x8000_0000_0000_0000 > 0x7ff0_0000_0000_0000 {
-        0.0 / 0.0
+        f64::NAN
     } else {
         f64::from_bits(bits)
     }
@@ -63,7 +57,7 @@ pub fn from_bits(bits: u64) -> f64
 pub fn to_bits(x: f64) -> u64
     ensures { result ≡ to_bits binary64 x }
 {
-    if x != x {
+    if x.is_nan() {
         0x7ff8_0000_0000_0000
     } else {
         f64::to_bits(x)
