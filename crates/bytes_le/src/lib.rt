@@ -7,6 +7,8 @@ ghost use Rattle.std.specs.Float.Ieee.{of_bits, to_bits};
 ghost use Rattle.complex.specs.Parts.{part};
 ghost use Rattle.bytes_le.specs.Value.{value};
 
+use std::num::{f64_from_bits_with_nan, f64_to_bits_with_nan};
+
 // ---- whole numbers at an index, least byte first
 
 #[tactic(auto, using(crate::proofs::Value::value_one))]
@@ -35,33 +37,32 @@ pub fn u64_at(s: &[u8], at: usize) -> u64
     requires { at + 8 ≤ length s.now }
     ensures { result ≡ value (part at (at + 8) s.now) }
 {
-    u64::from_le_bytes([s[at], s[at + 1], s[at + 2], s[at + 3], s[at + 4], s[at + 5], s[at + 6], s[at + 7]])
+    u64::from_le_bytes([
+        s[at],
+        s[at + 1],
+        s[at + 2],
+        s[at + 3],
+        s[at + 4],
+        s[at + 5],
+        s[at + 6],
+        s[at + 7],
+    ])
 }
 
 // ---- an f64 by its bits
 
-// The f64 of a pattern. With the sign's bit taken off, a NaN's pattern is above the infinity's.
-#[tactic(auto, using(crate::specs::Patterns::above_is_nan, crate::specs::Patterns::below_is_number))]
+// The f64 of a pattern.
 pub fn from_bits(bits: u64) -> f64
     ensures { result ≡ of_bits binary64 bits }
 {
-    if bits % 0x8000_0000_0000_0000 > 0x7ff0_0000_0000_0000 {
-        f64::NAN
-    } else {
-        f64::from_bits(bits)
-    }
+    f64_from_bits_with_nan(bits)
 }
 
 // The pattern of an f64, 7FF8000000000000 for a NaN.
-#[tactic(auto, using(crate::specs::Patterns::nan_pattern, crate::specs::Patterns::same_is_number))]
 pub fn to_bits(x: f64) -> u64
     ensures { result ≡ to_bits binary64 x }
 {
-    if x.is_nan() {
-        0x7ff8_0000_0000_0000
-    } else {
-        f64::to_bits(x)
-    }
+    f64_to_bits_with_nan(x)
 }
 
 pub fn f64_at(s: &[u8], at: usize) -> f64
