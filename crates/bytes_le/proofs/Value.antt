@@ -36,6 +36,12 @@ value_split a m e xs h k l =
     ∙ ap (λ i. value (part a m xs) + 256 ^ i * value (take (e - m) (drop (m - a) (drop a xs)))) s
     ∙ ap (λ ys. value (part a m xs) + 256 ^ (m - a) * value (take (e - m) ys)) (drop-drop (m - a) a xs ∙ ap (λ i. drop i xs) j)
 
+-- two numbers of w bytes, the lower first, are one of 2 * w
+pub value_pair : (w at e : ℕ) (xs : List ℕ) → at + w + w ≡ e → e ≤ length xs → value (part at (at + w) xs) + 256 ^ w * value (part (at + w) (at + w + w) xs) ≡ value (part at e xs)
+value_pair w at e xs h l =
+    let n : at + w - at ≡ w = omega arith in
+    sym (ap (λ i. value (part at i xs)) (sym h) ∙ value_split at (at + w) (at + w + w) xs (omega arith) (omega arith) (omega arith) ∙ ap (λ i. value (part at (at + w) xs) + 256 ^ i * value (part (at + w) (at + w + w) xs)) n)
+
 -- The bytes from an index on as std's `from_le_bytes` adds them up: byte i counts 256 ^ i.
 pub value_sum : (n at : ℕ) (xs : List ℕ) → at + suc n ≤ length xs → sum_through (λ i. byte_worth i (get_or xs (at + i) 0)) n ≡ value (part at (at + suc n) xs)
 value_sum zero at xs h = rw (add-zero at) (value_one xs at h)

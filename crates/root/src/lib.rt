@@ -187,7 +187,7 @@ fn half_root(n: Wide, g: u64, guess: f64) -> f64
     requires { Halvable n g }
     ensures { result ≡ half_root (whole n) n.cut g }
 {
-    if guess != guess {
+    if guess.is_nan() {
         return half_root_beside(n, g, 0);
     }
     let h = wrapping_sub_u64(f64::to_bits(guess), g * 0x10_0000_0000_0000);
@@ -234,7 +234,7 @@ fn magnitude(x: f64) -> u64
     ensures value { result ≡ to_bits binary64 x % 2 ^ 63 }
     ensures t { T (fits binary64 x) }
 {
-    if x != x {
+    if x.is_nan() {
         return 0x7ff8_0000_0000_0000;
     }
     f64::to_bits(x) % 0x8000_0000_0000_0000
@@ -244,7 +244,7 @@ fn magnitude(x: f64) -> u64
 fn pattern(x: f64) -> u64
     ensures { 0 < result → result ≡ to_bits binary64 x }
 {
-    if x != x {
+    if x.is_nan() {
         return 0;
     }
     f64::to_bits(x)
@@ -254,29 +254,9 @@ fn pattern(x: f64) -> u64
 
 // The root of a number from 2 to 8, less 1, in 4096ths: at 2, 2 1/4, .. 4, and from there on half of it, at 4, 4 1/2, .. 8. So
 // it goes on from one exponent to the next, as bit patterns do.
-fn root_at(i: u64) -> u64
-    ensures { result < 2 ^ 13 }
-{
-    match i {
-        0 => 1697,
-        1 => 2048,
-        2 => 2380,
-        3 => 2696,
-        4 => 2998,
-        5 => 3288,
-        6 => 3567,
-        7 => 3836,
-        8 => 4096,
-        9 => 4344,
-        10 => 4579,
-        11 => 4803,
-        12 => 5017,
-        13 => 5221,
-        14 => 5418,
-        15 => 5609,
-        _ => 5793,
-    }
-}
+const ROOTS: [u64; 17] = [
+    1697, 2048, 2380, 2696, 2998, 3288, 3567, 3836, 4096, 4344, 4579, 4803, 5017, 5221, 5418, 5609, 5793,
+];
 
 // 4096 times the number that is t / 4096 of the way from a to b.
 fn between(a: u64, b: u64, t: u64) -> u64
@@ -294,9 +274,9 @@ fn first_guess(b: u64) -> f64
     requires { b < 2 ^ 63 }
 {
     let c = b + 0x10_0000_0000;
-    let i = (c >> 49) % 16;
+    let i = ((c >> 49) % 16) as usize;
     let t = (c >> 37) % 4096;
-    let first = between(root_at(i), root_at(i + 1), t);
+    let first = between(ROOTS[i], ROOTS[i + 1], t);
     f64::from_bits((c >> 53 << 52) + (first << 28) + 0x1ff0_0000_0000_0000)
 }
 
@@ -312,7 +292,7 @@ fn refined(g: f64, d: f64, r: f64) -> f64 {
 }
 
 fn root_guess(x: f64) -> f64 {
-    if x != x {
+    if x.is_nan() {
         return x;
     }
     let g = first_guess(f64::to_bits(x) % 0x8000_0000_0000_0000);
@@ -338,7 +318,7 @@ fn excess(a: Complex, g: f64) -> f64 {
 
 fn norm_guess(a: Complex) -> f64 {
     let z = a.norm_sqr();
-    if z != z {
+    if z.is_nan() {
         return z;
     }
     let g = first_guess(f64::to_bits(z) % 0x8000_0000_0000_0000);
@@ -370,7 +350,7 @@ fn positive(b: u64, guess: f64) -> f64
 pub fn root_with(x: f64, guess: f64) -> f64
     ensures { result ≡ root_of x }
 {
-    if x != x {
+    if x.is_nan() {
         return x;
     }
     let b = f64::to_bits(x);
@@ -381,7 +361,7 @@ pub fn root_with(x: f64, guess: f64) -> f64
         return x;
     }
     if b > 0x8000_0000_0000_0000 {
-        return 0.0 / 0.0;
+        return f64::NAN;
     }
     if b >= 0x7ff0_0000_0000_0000 {
         return x;
@@ -400,18 +380,6 @@ pub fn root(x: f64) -> f64
 }
 
 // ---- the size of a complex number
-
-fn larger(x: u64, y: u64) -> u64
-    ensures { result ≡ (if ltb x y then y else x) }
-{
-    if x < y { y } else { x }
-}
-
-fn smaller(x: u64, y: u64) -> u64
-    ensures { result ≡ (if ltb x y then x else y) }
-{
-    if x < y { x } else { y }
-}
 
 // Four times the sum of the squares of a and b / 2^k, cut to a whole number.
 fn scaled_sum(a: u64, b: u64, k: u64) -> Wide
@@ -456,9 +424,9 @@ pub fn norm_with(a: Complex, guess: f64) -> f64
     if (x == top) | (y == top) {
         f64::from_bits(top)
     } else if (x > top) | (y > top) {
-        0.0 / 0.0
+        f64::NAN
     } else {
-        finite_norm(larger(x, y), smaller(x, y), guess)
+        finite_norm(x.max(y), x.min(y), guess)
     }
 }
 
