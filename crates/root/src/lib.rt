@@ -16,74 +16,11 @@ ghost use Rattle.root.specs.FromUnits.{Decodes};
 ghost use Rattle.root.specs.HalfRoot.{half_root, Halvable};
 ghost use Rattle.root.specs.NormMethod.{scaled_sum, cut_off};
 
+mod wide;
+
 use complex::Complex;
 use std::num::wrapping_sub_u64;
-
-// ---- numbers of two words
-
-// A whole number, hi * 2^54 + lo with lo below 2^54, and whether anything was cut off below it.
-#[derive(Clone, Copy)]
-struct Wide {
-    hi: u64,
-    lo: u64,
-    cut: bool,
-}
-
-// Whether m is less than n.
-fn is_less(m: Wide, n: Wide) -> bool
-    requires lo_bound { m.lo < 2 ^ 54 }
-    requires lo_bound_2 { n.lo < 2 ^ 54 }
-    ensures { result ≡ nat_lt (whole m) (whole n) }
-{
-    (m.hi < n.hi) | ((m.hi == n.hi) & (m.lo < n.lo))
-}
-
-// The square of m, by halves of 27 binary digits.
-fn square(m: u64) -> Wide
-    requires { m < 2 ^ 54 }
-    ensures { Holds result (m * m) false }
-{
-    let a = m >> 27;
-    let b = m % 0x800_0000;
-    let c = a * b;
-    let lo = b * b + c % 0x400_0000 * 0x1000_0000;
-    let hi = a * a + (c >> 26) + (lo >> 54);
-    Wide {
-        hi,
-        lo: lo % 0x40_0000_0000_0000,
-        cut: false,
-    }
-}
-
-// The whole part of n / 4^k.
-fn quotient(n: Wide, k: u64) -> Wide
-    requires lo_bound { n.lo < 2 ^ 54 }
-    requires k_bound { k ≤ 26 }
-    ensures { Holds result (whole n / 4 ^ k) (n.cut || nat_lt 0 (whole n % 4 ^ k)) }
-{
-    let t: u64 = 1 << (2 * k);
-    let u: u64 = 1 << (54 - 2 * k);
-    let hi = n.hi / t;
-    let lo = n.hi % t * u + n.lo / t;
-    let cut = n.cut || n.lo % t > 0;
-    Wide { hi, lo, cut }
-}
-
-// m + n, where nothing was cut off below m.
-fn sum(m: Wide, n: Wide) -> Wide
-    requires hi_bound { m.hi < 2 ^ 54 }
-    requires lo_bound { m.lo < 2 ^ 54 }
-    requires hi_bound_2 { n.hi < 2 ^ 54 }
-    requires lo_bound_2 { n.lo < 2 ^ 54 }
-    ensures { Holds result (whole m + whole n) n.cut }
-{
-    let lo = m.lo + n.lo;
-    Wide {
-        hi: m.hi + n.hi + (lo >> 54),
-        lo: lo % 0x40_0000_0000_0000,
-        cut: n.cut,
-    }
-}
+use wide::Wide;
 
 // ---- half of a root
 
@@ -148,12 +85,11 @@ fn from_units(h: u64, g: u64) -> f64
 
 // Whether n lies between the squares of 2 * h - 1 and 2 * h + 1 and is neither. Then half of its root is rounded to h.
 fn is_half(n: Wide, h: u64) -> bool
-    requires lo_bound { n.lo < 2 ^ 54 }
     requires h_nonzero { 0 < h }
     requires h_bound { h < 2 ^ 53 }
     ensures { result ≡ (nat_lt ((2 * h - 1) * (2 * h - 1)) (whole n) && nat_lt (whole n) ((2 * h + 1) * (2 * h + 1))) }
 {
-    is_less(square(2 * h - 1), n) & is_less(n, square(2 * h + 1))
+    Wide::square(2 * h - 1).is_less(n) & n.is_less(Wide::square(2 * h + 1))
 }
 
 // Half of the root of n, rounded to the nearest, times 2^g units, by its digits.
@@ -255,7 +191,8 @@ fn pattern(x: f64) -> u64
 // The root of a number from 2 to 8, less 1, in 4096ths: at 2, 2 1/4, .. 4, and from there on half of it, at 4, 4 1/2, .. 8. So
 // it goes on from one exponent to the next, as bit patterns do.
 const ROOTS: [u64; 17] = [
-    1697, 2048, 2380, 2696, 2998, 3288, 3567, 3836, 4096, 4344, 4579, 4803, 5017, 5221, 5418, 5609, 5793,
+    1697, 2048, 2380, 2696, 2998, 3288, 3567, 3836, 4096, 4344, 4579, 4803, 5017, 5221, 5418, 5609,
+    5793,
 ];
 
 // 4096 times the number that is t / 4096 of the way from a to b.
@@ -388,7 +325,7 @@ fn scaled_sum(a: u64, b: u64, k: u64) -> Wide
     requires k_bound { k ≤ 26 }
     ensures { Holds result (scaled_sum a b k) (cut_off b k) }
 {
-    sum(square(2 * a), quotient(square(2 * b), k))
+    Wide::square(2 * a).sum(Wide::square(2 * b).quotient(k))
 }
 
 // From so many exponents apart on, the smaller part does not show in the size.
@@ -410,7 +347,7 @@ fn finite_norm(x: u64, y: u64, guess: f64) -> f64
     }
     let n = scaled_sum(a.significand, b.significand, k);
     let longer = n.hi >> 54;
-    half_root(quotient(n, longer), a.exponent + longer, guess)
+    half_root(n.quotient(longer), a.exponent + longer, guess)
 }
 
 // The size of a complex number, whatever the guess at it: the f64 nearest to the exact root of the sum of its parts'
