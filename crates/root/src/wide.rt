@@ -18,7 +18,7 @@ impl Wide {
     pub(crate) fn is_less(self, n: Wide) -> bool
         ensures { result ≡ nat_lt (whole self) (whole n) }
     {
-        (self.hi < n.hi) | ((self.hi == n.hi) & (self.lo < n.lo))
+        (self.hi, self.lo) < (n.hi, n.lo)
     }
 
     // The square of m, by halves of 27 binary digits.
