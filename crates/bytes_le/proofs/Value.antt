@@ -1,7 +1,8 @@
 -- The number of one byte, of two, of bytes behind each other, and of a part in two parts.
-use Rattle.std.specs.Prelude.{◌≡◌, List, [], ◌∷◌, ◌++◌, ℕ, suc, ◌+◌, ◌-◌, ◌*◌, ◌^◌, ◌≤◌, length, get_or, take, drop}
-use Rattle.std.proofs.Common.{sym, ap, ◌∙◌, mul_assoc, arith, length-drop, take-add, drop-drop, drop-cons, length-take-le}
+use Rattle.std.specs.Prelude.{◌≡◌, List, [], ◌∷◌, ◌++◌, ℕ, zero, suc, ◌+◌, ◌-◌, ◌*◌, ◌^◌, ◌≤◌, length, get_or, take, drop}
+use Rattle.std.proofs.Common.{sym, ap, ap₂, ◌∙◌, add-zero, mul_assoc, mul_comm, arith, length-drop, take-add, drop-drop, drop-cons, length-take-le}
 use Rattle.std.proofs.Math.Nat.{pow-succ'}
+use Rattle.std.specs.Int.{sum_through, byte_worth}
 use Rattle.complex.specs.Parts.{part}
 use Rattle.bytes_le.specs.Value.{value}
 
@@ -40,3 +41,13 @@ pub value_pair : (w at e : ℕ) (xs : List ℕ) → at + w + w ≡ e → e ≤ l
 value_pair w at e xs h l =
     let n : at + w - at ≡ w = omega arith in
     sym (ap (λ i. value (part at i xs)) (sym h) ∙ value_split at (at + w) (at + w + w) xs (omega arith) (omega arith) (omega arith) ∙ ap (λ i. value (part at (at + w) xs) + 256 ^ i * value (part (at + w) (at + w + w) xs)) n)
+
+-- The bytes from an index on as std's `from_le_bytes` adds them up: byte i counts 256 ^ i.
+pub value_sum : (n at : ℕ) (xs : List ℕ) → at + suc n ≤ length xs → sum_through (λ i. byte_worth i (get_or xs (at + i) 0)) n ≡ value (part at (at + suc n) xs)
+value_sum zero at xs h = rw (add-zero at) (value_one xs at h)
+value_sum (suc n) at xs h =
+    let k : suc n ≡ at + suc n - at = omega arith in
+    let e : at + suc n + 1 ≡ at + suc (suc n) = omega arith in
+    let last = value_one xs (at + suc n) (omega arith) ∙ ap (λ i. value (part (at + suc n) i xs)) e in
+    ap₂ (λ x y. x + y) (value_sum n at xs (omega arith)) (mul_comm (get_or xs (at + suc n) 0) (256 ^ suc n) ∙ ap₂ (λ i y. 256 ^ i * y) k last)
+    ∙ sym (value_split at (at + suc n) (at + suc (suc n)) xs (omega arith) (omega arith) h)

@@ -7,6 +7,8 @@ ghost use Rattle.std.specs.Float.Ieee.{of_bits, to_bits};
 ghost use Rattle.complex.specs.Parts.{part};
 ghost use Rattle.bytes_le.specs.Value.{value};
 
+use std::num::{f64_from_bits_with_nan, f64_to_bits_with_nan};
+
 // ---- whole numbers at an index, least byte first
 
 #[tactic(auto, using(crate::proofs::Value::value_one))]
@@ -21,53 +23,46 @@ pub fn u16_at(s: &[u8], at: usize) -> u16
     requires { at + 2 ≤ length s.now }
     ensures { result ≡ value (part at (at + 2) s.now) }
 {
-    let low = u8_at(s, at) as u16;
-    let high = u8_at(s, at + 1) as u16;
-    low + 0x100 * high
+    u16::from_le_bytes([s[at], s[at + 1]])
 }
 
 pub fn u32_at(s: &[u8], at: usize) -> u32
     requires { at + 4 ≤ length s.now }
     ensures { result ≡ value (part at (at + 4) s.now) }
 {
-    let low = u16_at(s, at) as u32;
-    let high = u16_at(s, at + 2) as u32;
-    low + 0x1_0000 * high
+    u32::from_le_bytes([s[at], s[at + 1], s[at + 2], s[at + 3]])
 }
 
 pub fn u64_at(s: &[u8], at: usize) -> u64
     requires { at + 8 ≤ length s.now }
     ensures { result ≡ value (part at (at + 8) s.now) }
 {
-    let low = u32_at(s, at) as u64;
-    let high = u32_at(s, at + 4) as u64;
-    low + 0x1_0000_0000 * high
+    u64::from_le_bytes([
+        s[at],
+        s[at + 1],
+        s[at + 2],
+        s[at + 3],
+        s[at + 4],
+        s[at + 5],
+        s[at + 6],
+        s[at + 7],
+    ])
 }
 
 // ---- an f64 by its bits
 
-// The f64 of a pattern. With the sign's bit taken off, a NaN's pattern is above the infinity's.
-#[tactic(auto, using(crate::specs::Patterns::above_is_nan, crate::specs::Patterns::below_is_number))]
+// The f64 of a pattern.
 pub fn from_bits(bits: u64) -> f64
     ensures { result ≡ of_bits binary64 bits }
 {
-    if bits % 0x8000_0000_0000_0000 > 0x7ff0_0000_0000_0000 {
-        0.0 / 0.0
-    } else {
-        f64::from_bits(bits)
-    }
+    f64_from_bits_with_nan(bits)
 }
 
 // The pattern of an f64, 7FF8000000000000 for a NaN.
-#[tactic(auto, using(crate::specs::Patterns::nan_pattern, crate::specs::Patterns::same_is_number))]
 pub fn to_bits(x: f64) -> u64
     ensures { result ≡ to_bits binary64 x }
 {
-    if x != x {
-        0x7ff8_0000_0000_0000
-    } else {
-        f64::to_bits(x)
-    }
+    f64_to_bits_with_nan(x)
 }
 
 pub fn f64_at(s: &[u8], at: usize) -> f64

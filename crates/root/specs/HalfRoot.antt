@@ -4,7 +4,7 @@ use Rattle.std.specs.Prelude.{ℕ, ◌-◌, ◌*◌, ◌^◌, ◌<◌, ◌≤◌
 use Rattle.std.specs.Float.Ieee.{binary64, units}
 use Rattle.root.specs.Whole.{whole_root}
 use Rattle.root.specs.NearestHalf.{nearest_half}
-use Rattle.root.specs.declared.Wide.{Wide}
+use Rattle.root.specs.declared.wide.Wide.{Wide}
 
 -- half of N's root, rounded, times 2 ^ g units; cut says that something was cut off below N
 unfoldable pub half_root : ℕ → Bool → ℕ → Float
@@ -14,6 +14,5 @@ half_root N cut g = let w = whole_root 54 N in units binary64 false (nearest_hal
 -- a number in two words whose root has 54 digits, unless g is 0, so that its half times 2 ^ g units is a value or past the largest
 pub record Halvable (n : Wide) (g : ℕ) : Type 0 where
   pub upper : n.hi < 2 ^ 54
-  pub lower : n.lo < 2 ^ 54
   pub full : 0 < g → 2 ^ 52 ≤ n.hi
   pub exponent : g ≤ 2046

@@ -16,74 +16,11 @@ ghost use Rattle.root.specs.FromUnits.{Decodes};
 ghost use Rattle.root.specs.HalfRoot.{half_root, Halvable};
 ghost use Rattle.root.specs.NormMethod.{scaled_sum, cut_off};
 
+mod wide;
+
 use complex::Complex;
 use std::num::wrapping_sub_u64;
-
-// ---- numbers of two words
-
-// A whole number, hi * 2^54 + lo with lo below 2^54, and whether anything was cut off below it.
-#[derive(Clone, Copy)]
-struct Wide {
-    hi: u64,
-    lo: u64,
-    cut: bool,
-}
-
-// Whether m is less than n.
-fn is_less(m: Wide, n: Wide) -> bool
-    requires lo_bound { m.lo < 2 ^ 54 }
-    requires lo_bound_2 { n.lo < 2 ^ 54 }
-    ensures { result ≡ nat_lt (whole m) (whole n) }
-{
-    (m.hi < n.hi) | ((m.hi == n.hi) & (m.lo < n.lo))
-}
-
-// The square of m, by halves of 27 binary digits.
-fn square(m: u64) -> Wide
-    requires { m < 2 ^ 54 }
-    ensures { Holds result (m * m) false }
-{
-    let a = m >> 27;
-    let b = m % 0x800_0000;
-    let c = a * b;
-    let lo = b * b + c % 0x400_0000 * 0x1000_0000;
-    let hi = a * a + (c >> 26) + (lo >> 54);
-    Wide {
-        hi,
-        lo: lo % 0x40_0000_0000_0000,
-        cut: false,
-    }
-}
-
-// The whole part of n / 4^k.
-fn quotient(n: Wide, k: u64) -> Wide
-    requires lo_bound { n.lo < 2 ^ 54 }
-    requires k_bound { k ≤ 26 }
-    ensures { Holds result (whole n / 4 ^ k) (n.cut || nat_lt 0 (whole n % 4 ^ k)) }
-{
-    let t: u64 = 1 << (2 * k);
-    let u: u64 = 1 << (54 - 2 * k);
-    let hi = n.hi / t;
-    let lo = n.hi % t * u + n.lo / t;
-    let cut = n.cut || n.lo % t > 0;
-    Wide { hi, lo, cut }
-}
-
-// m + n, where nothing was cut off below m.
-fn sum(m: Wide, n: Wide) -> Wide
-    requires hi_bound { m.hi < 2 ^ 54 }
-    requires lo_bound { m.lo < 2 ^ 54 }
-    requires hi_bound_2 { n.hi < 2 ^ 54 }
-    requires lo_bound_2 { n.lo < 2 ^ 54 }
-    ensures { Holds result (whole m + whole n) n.cut }
-{
-    let lo = m.lo + n.lo;
-    Wide {
-        hi: m.hi + n.hi + (lo >> 54),
-        lo: lo % 0x40_0000_0000_0000,
-        cut: n.cut,
-    }
-}
+use wide::Wide;
 
 // ---- half of a root
 
@@ -148,12 +85,11 @@ fn from_units(h: u64, g: u64) -> f64
 
 // Whether n lies between the squares of 2 * h - 1 and 2 * h + 1 and is neither. Then half of its root is rounded to h.
 fn is_half(n: Wide, h: u64) -> bool
-    requires lo_bound { n.lo < 2 ^ 54 }
     requires h_nonzero { 0 < h }
     requires h_bound { h < 2 ^ 53 }
     ensures { result ≡ (nat_lt ((2 * h - 1) * (2 * h - 1)) (whole n) && nat_lt (whole n) ((2 * h + 1) * (2 * h + 1))) }
 {
-    is_less(square(2 * h - 1), n) & is_less(n, square(2 * h + 1))
+    Wide::square(2 * h - 1).is_less(n) & n.is_less(Wide::square(2 * h + 1))
 }
 
 // Half of the root of n, rounded to the nearest, times 2^g units, by its digits.
@@ -187,7 +123,7 @@ fn half_root(n: Wide, g: u64, guess: f64) -> f64
     requires { Halvable n g }
     ensures { result ≡ half_root (whole n) n.cut g }
 {
-    if guess != guess {
+    if guess.is_nan() {
         return half_root_beside(n, g, 0);
     }
     let h = wrapping_sub_u64(f64::to_bits(guess), g * 0x10_0000_0000_0000);
@@ -234,7 +170,7 @@ fn magnitude(x: f64) -> u64
     ensures value { result ≡ to_bits binary64 x % 2 ^ 63 }
     ensures t { T (fits binary64 x) }
 {
-    if x != x {
+    if x.is_nan() {
         return 0x7ff8_0000_0000_0000;
     }
     f64::to_bits(x) % 0x8000_0000_0000_0000
@@ -244,7 +180,7 @@ fn magnitude(x: f64) -> u64
 fn pattern(x: f64) -> u64
     ensures { 0 < result → result ≡ to_bits binary64 x }
 {
-    if x != x {
+    if x.is_nan() {
         return 0;
     }
     f64::to_bits(x)
@@ -254,29 +190,10 @@ fn pattern(x: f64) -> u64
 
 // The root of a number from 2 to 8, less 1, in 4096ths: at 2, 2 1/4, .. 4, and from there on half of it, at 4, 4 1/2, .. 8. So
 // it goes on from one exponent to the next, as bit patterns do.
-fn root_at(i: u64) -> u64
-    ensures { result < 2 ^ 13 }
-{
-    match i {
-        0 => 1697,
-        1 => 2048,
-        2 => 2380,
-        3 => 2696,
-        4 => 2998,
-        5 => 3288,
-        6 => 3567,
-        7 => 3836,
-        8 => 4096,
-        9 => 4344,
-        10 => 4579,
-        11 => 4803,
-        12 => 5017,
-        13 => 5221,
-        14 => 5418,
-        15 => 5609,
-        _ => 5793,
-    }
-}
+const ROOTS: [u64; 17] = [
+    1697, 2048, 2380, 2696, 2998, 3288, 3567, 3836, 4096, 4344, 4579, 4803, 5017, 5221, 5418, 5609,
+    5793,
+];
 
 // 4096 times the number that is t / 4096 of the way from a to b.
 fn between(a: u64, b: u64, t: u64) -> u64
@@ -294,9 +211,9 @@ fn first_guess(b: u64) -> f64
     requires { b < 2 ^ 63 }
 {
     let c = b + 0x10_0000_0000;
-    let i = (c >> 49) % 16;
+    let i = ((c >> 49) % 16) as usize;
     let t = (c >> 37) % 4096;
-    let first = between(root_at(i), root_at(i + 1), t);
+    let first = between(ROOTS[i], ROOTS[i + 1], t);
     f64::from_bits((c >> 53 << 52) + (first << 28) + 0x1ff0_0000_0000_0000)
 }
 
@@ -312,7 +229,7 @@ fn refined(g: f64, d: f64, r: f64) -> f64 {
 }
 
 fn root_guess(x: f64) -> f64 {
-    if x != x {
+    if x.is_nan() {
         return x;
     }
     let g = first_guess(f64::to_bits(x) % 0x8000_0000_0000_0000);
@@ -338,7 +255,7 @@ fn excess(a: Complex, g: f64) -> f64 {
 
 fn norm_guess(a: Complex) -> f64 {
     let z = a.norm_sqr();
-    if z != z {
+    if z.is_nan() {
         return z;
     }
     let g = first_guess(f64::to_bits(z) % 0x8000_0000_0000_0000);
@@ -370,7 +287,7 @@ fn positive(b: u64, guess: f64) -> f64
 pub fn root_with(x: f64, guess: f64) -> f64
     ensures { result ≡ root_of x }
 {
-    if x != x {
+    if x.is_nan() {
         return x;
     }
     let b = f64::to_bits(x);
@@ -381,7 +298,7 @@ pub fn root_with(x: f64, guess: f64) -> f64
         return x;
     }
     if b > 0x8000_0000_0000_0000 {
-        return 0.0 / 0.0;
+        return f64::NAN;
     }
     if b >= 0x7ff0_0000_0000_0000 {
         return x;
@@ -401,18 +318,6 @@ pub fn root(x: f64) -> f64
 
 // ---- the size of a complex number
 
-fn larger(x: u64, y: u64) -> u64
-    ensures { result ≡ (if ltb x y then y else x) }
-{
-    if x < y { y } else { x }
-}
-
-fn smaller(x: u64, y: u64) -> u64
-    ensures { result ≡ (if ltb x y then x else y) }
-{
-    if x < y { x } else { y }
-}
-
 // Four times the sum of the squares of a and b / 2^k, cut to a whole number.
 fn scaled_sum(a: u64, b: u64, k: u64) -> Wide
     requires a_bound { a < 2 ^ 53 }
@@ -420,7 +325,7 @@ fn scaled_sum(a: u64, b: u64, k: u64) -> Wide
     requires k_bound { k ≤ 26 }
     ensures { Holds result (scaled_sum a b k) (cut_off b k) }
 {
-    sum(square(2 * a), quotient(square(2 * b), k))
+    Wide::square(2 * a).sum(Wide::square(2 * b).quotient(k))
 }
 
 // From so many exponents apart on, the smaller part does not show in the size.
@@ -442,7 +347,7 @@ fn finite_norm(x: u64, y: u64, guess: f64) -> f64
     }
     let n = scaled_sum(a.significand, b.significand, k);
     let longer = n.hi >> 54;
-    half_root(quotient(n, longer), a.exponent + longer, guess)
+    half_root(n.quotient(longer), a.exponent + longer, guess)
 }
 
 // The size of a complex number, whatever the guess at it: the f64 nearest to the exact root of the sum of its parts'
@@ -456,9 +361,9 @@ pub fn norm_with(a: Complex, guess: f64) -> f64
     if (x == top) | (y == top) {
         f64::from_bits(top)
     } else if (x > top) | (y > top) {
-        0.0 / 0.0
+        f64::NAN
     } else {
-        finite_norm(larger(x, y), smaller(x, y), guess)
+        finite_norm(x.max(y), x.min(y), guess)
     }
 }
 

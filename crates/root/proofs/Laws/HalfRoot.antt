@@ -19,7 +19,7 @@ use Rattle.root.proofs.Laws.NearestLaws.{overflow}
 use Rattle.root.proofs.Laws.FromUnits.{units_count, units_candidate, units_bits, units_infinite}
 use Rattle.root.specs.Cut.{Cut}
 use Rattle.root.specs.Wide.{whole}
-use Rattle.root.specs.declared.Wide.{Wide}
+use Rattle.root.specs.declared.wide.Wide.{Wide}
 use Rattle.root.specs.HalfRoot.{half_root, Halvable}
 
 -- ---- w is the whole root of 4 * q in units of G * G, which is twice q's, and h its half
@@ -101,7 +101,7 @@ module _ (n : Wide) (g h : ℕ) (A : Halvable n g) (some : 0 < h) (t : (nat_lt (
   v = whole_root 54 (whole n)
 
   root_v : IsRoot (whole n) v
-  root_v = whole_root_lem 54 (whole n) (omega (arith, A.upper, A.lower))
+  root_v = whole_root_lem 54 (whole n) (omega (arith, A.upper, n.low))
 
   abbrev more : Bool
   more = n.cut || nat_lt 0 (whole n - v * v)
@@ -122,7 +122,7 @@ module _ (n : Wide) (g h : ℕ) (A : Halvable n g) (some : 0 < h) (t : (nat_lt (
       even v l k = omega (arith, some)
 
   pub tested_digits : Significand h g
-  tested_digits = subst (λ (x : ℕ). Significand x g) is_half (half_few v more (side_lt v (2 ^ 54) (lt_of_le_of_lt root_v.low (omega (arith, A.upper, A.lower)))), λ p. half_least v more (le_of_suc-le-suc (side_lt (2 ^ 53) (suc v) (lt_of_le_of_lt (omega (arith, A.full p)) root_v.high))))
+  tested_digits = subst (λ (x : ℕ). Significand x g) is_half (half_few v more (side_lt v (2 ^ 54) (lt_of_le_of_lt root_v.low (omega (arith, A.upper, n.low)))), λ p. half_least v more (le_of_suc-le-suc (side_lt (2 ^ 53) (suc v) (lt_of_le_of_lt (omega (arith, A.full p)) root_v.high))))
 
   pub tested : units binary64 false h g ≡ half_root (whole n) n.cut g
   unfolding half_root

@@ -1,8 +1,10 @@
 -- The size of a number by its parts' bit patterns without their signs, as `norm` finds it. Assumes nothing.
 use Rattle.std.proofs.lemmas.Bool.{eqb-false}
-use Rattle.std.proofs.Common.{ltb-true, ltb-false, eq-eqb, ne_eqb, lt-ltb, le-ltb, sym, ap, ap₂, ◌∙◌, subst, true≢false, add_comm, le_of_eq, le_of_lt, lt_irrefl, lt_trans}
-use Rattle.std.specs.Prelude.{◌≡◌, ℕ, ◌+◌, ◌*◌, ◌%◌, ◌^◌, ◌<◌, ◌≤◌, Bool, true, false, cond, ◌||◌, T, ltb, ℤ, ◌==◌, from_bits, nat_eq, nat_lt, to_bits, refl, Float}
+use Rattle.std.proofs.Common.{ltb-true, ltb-false, eq-eqb, ne_eqb, lt-ltb, le-ltb, sym, ap, ap₂, ◌∙◌, subst, true≢false, add_comm, le_of_eq, le_of_lt, lt_irrefl, lt_trans, lt_of_not-le}
+use Rattle.std.specs.Prelude.{◌≡◌, ℕ, ◌+◌, ◌*◌, ◌%◌, ◌^◌, ◌<◌, ◌≤◌, Bool, true, false, cond, ◌||◌, T, ltb, ℤ, ◌==◌, from_bits, max, min, nat_eq, nat_lt, to_bits, refl, Float}
 use Rattle.std.proofs.Math.Arith.{lt_of_le-ne}
+use Rattle.std.proofs.Math.Nat.{max-eq_left, max-eq_right, min-eq_left, min-eq_right}
+use Rattle.std.proofs.Math.Decide.{dec_le}
 use Rattle.std.specs.Float.{nan, inf, fin, binary64}
 use Rattle.std.specs.Float.Ieee.{fits, is_nan}
 use Rattle.std.specs.Float.Ieee.Bits.{of_bits-to_bits}
@@ -73,17 +75,14 @@ module _ (a : Complex) (b c : ℕ) (R : b ≡ to_bits binary64 a.re % 2 ^ 63) (I
 
 -- ---- two patterns, the larger one first
 
-module _ (x y l s : ℕ) (L : l ≡ cond (nat_lt x y) y x) (S : s ≡ cond (nat_lt x y) x y) where
-  pub in_order : x < top → y < top → (s ≤ l) × (l < top)
-  in_order h k = rw (L, S) (at (nat_lt x y) refl)
-    where
-      at : (b : Bool) → nat_lt x y ≡ b → (cond b x y ≤ cond b y x) × (cond b y x < top)
-      at true e = (le_of_lt (ltb-true x y e), k)
-      at false e = (ltb-false x y e, h)
+pub in_order : (x y : ℕ) → x < top → y < top → (min x y ≤ max x y) × (max x y < top)
+in_order x y h k = elim (dec_le x y) [
+  | yes l ↦ rw (max-eq_right l, min-eq_left l) (l, k)
+  | no n ↦ let l = le_of_lt (lt_of_not-le n) in rw (max-eq_left l, min-eq_right l) (l, h)
+]
 
-  pub either_order : sum_of_squares (from_bits binary64 l) (from_bits binary64 s) ≡ sum_of_squares (from_bits binary64 x) (from_bits binary64 y)
-  either_order = rw (L, S) (at (nat_lt x y))
-    where
-      at : (b : Bool) → sum_of_squares (from_bits binary64 (cond b y x)) (from_bits binary64 (cond b x y)) ≡ sum_of_squares (from_bits binary64 x) (from_bits binary64 y)
-      at true = add_comm _ _
-      at false = refl
+pub either_order : (x y : ℕ) → sum_of_squares (from_bits binary64 (max x y)) (from_bits binary64 (min x y)) ≡ sum_of_squares (from_bits binary64 x) (from_bits binary64 y)
+either_order x y = elim (dec_le x y) [
+  | yes h ↦ rw (max-eq_right h, min-eq_left h) (add_comm _ _)
+  | no h ↦ let l = le_of_lt (lt_of_not-le h) in rw (max-eq_left l, min-eq_right l) refl
+]

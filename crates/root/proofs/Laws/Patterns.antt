@@ -48,7 +48,13 @@ minus_zero : (e : ℤ) → to_bits binary64 (fin true zero e) ≡ 2 ^ 63
 unfolding to_bits
 minus_zero e = rw (zero-mul (up e), zero-div (down e)) refl
 
--- ---- what the test `x != x` says
+-- ---- what the tests for a NaN say
+
+pub is_nan_differs : (x : Float) → is_nan x ≡ true → ne x x ≡ true
+unfolding is_nan
+is_nan_differs nan h = nan_differs
+is_nan_differs (inf s) h = absurd (true≢false (sym h))
+is_nan_differs (fin s m e) h = absurd (true≢false (sym h))
 
 pub nan_magnitude : (x : Float) → ne x x ≡ true → 0x7FF8_0000_0000_0000 ≡ to_bits binary64 x % 2 ^ 63
 unfolding to_bits
@@ -96,7 +102,11 @@ top_root (inf true) h l k = absurd (omega arith)
 top_root (inf false) h l k = refl
 top_root (fin s m e) h l k = absurd (not-le_of_lt (finite_magnitude s m e h) (subst (λ (b : ℕ). top ≤ b) (sym (mod-eq_of_lt k)) l))
 
--- 0.0 / 0.0, which the program returns where there is no root and no size
+-- 0.0 / 0.0, and f64::NAN, which the program returns where there is no root and no size
 pub no_root : div binary64 (of_bits binary64 0) (of_bits binary64 0) ≡ nan
 unfolding div of_bits
 no_root = refl
+
+pub nan_value : of_bits binary64 0x7FF8_0000_0000_0000 ≡ nan
+unfolding of_bits
+nan_value = refl

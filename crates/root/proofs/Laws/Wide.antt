@@ -5,7 +5,7 @@ use Rattle.std.proofs.Math.Nat.{add-mul-mod_self_left, add-mul-div_right}
 use Rattle.std.proofs.Math.Decide.{dec_le}
 use Rattle.std.proofs.Math.Arith.{digits_lt}
 use Rattle.root.proofs.Laws.PowersOfFour.{four_pow, four_pos}
-use Rattle.root.specs.declared.Wide.{Wide}
+use Rattle.root.specs.declared.wide.Wide.{Wide}
 use Rattle.root.specs.Wide.{whole, Products, low_word}
 
 -- how large the upper word is
@@ -16,8 +16,8 @@ pub upper_ge : (hi lo N : ℕ) → hi * 2 ^ 54 + lo ≡ N → lo < 2 ^ 54 → 2 
 upper_ge hi lo N e l h = omega arith
 
 -- the words are compared, the upper ones first
-pub whole_lt : (m n : Wide) → m.lo < 2 ^ 54 → n.lo < 2 ^ 54 → (nat_lt m.hi n.hi || (m.hi == n.hi && nat_lt m.lo n.lo)) ≡ nat_lt (whole m) (whole n)
-whole_lt m n M N = words m.hi m.lo n.hi n.lo M N
+pub whole_lt : (m n : Wide) → (nat_lt m.hi n.hi || (m.hi == n.hi && nat_lt m.lo n.lo)) ≡ nat_lt (whole m) (whole n)
+whole_lt m n = words m.hi m.lo n.hi n.lo m.low n.low
   where
     words : (a b c d : ℕ) → b < 2 ^ 54 → d < 2 ^ 54 → (nat_lt a c || (a == c && nat_lt b d)) ≡ nat_lt (a * 2 ^ 54 + b) (c * 2 ^ 54 + d)
     words a b c d B D = elim (dec_le c a) [
@@ -61,9 +61,9 @@ module _ (k : ℕ) (K : k ≤ 26) where
       all : 2 * k + (54 - 2 * k) ≡ 54
       all = omega arith
 
-  module _ (n : Wide) (L : n.lo < 2 ^ 54) where
+  module _ (n : Wide) where
     pub quotient_low : n.hi % t * u + n.lo / t < 2 ^ 54
-    quotient_low = subst (λ (x : ℕ). n.hi % t * u + n.lo / t < x) both (digits_lt (mod-lt n.hi divisor_pos) ((div-lt_iff_lt-mul divisor_pos).1 (subst (λ (x : ℕ). n.lo < x) (sym both ∙ mul_comm t u) L)))
+    quotient_low = subst (λ (x : ℕ). n.hi % t * u + n.lo / t < x) both (digits_lt (mod-lt n.hi divisor_pos) ((div-lt_iff_lt-mul divisor_pos).1 (subst (λ (x : ℕ). n.lo < x) (sym both ∙ mul_comm t u) n.low)))
 
     by_t : whole n ≡ n.lo + n.hi * u * t
     by_t = ap (λ (x : ℕ). n.hi * x + n.lo) (sym both ∙ mul_comm t u) ∙ add_comm (n.hi * (u * t)) n.lo ∙ ap (λ (x : ℕ). n.lo + x) (sym (mul_assoc n.hi u t))

@@ -1,16 +1,12 @@
 -- `root::half_root` meets its contract: what `is_half` says is enough (`specs/HalfRoot.antt`). Assumes nothing.
 use Rattle.std.proofs.Common.{◌^◌, ◌<◌, sym, ◌∙◌, arith, ltb-true}
 use mathlib.Core.Bool.{and-eq-true_iff}
-use Rattle.root.proofs.Laws.Patterns.{not_nan}
 use Rattle.root.proofs.Laws.HalfRoot.{tested_digits, tested}
 use Rattle.root.proofs.half_root.Goals as goal
 
-pub float_to_bits-guess : goal.float_to_bits-guess
-float_to_bits-guess c = not_nan _ c.if-guess.false
-
 pub is_half-passes-requires : goal.is_half-passes-requires
 is_half-passes-requires c = let in-range : let h = c.wrapping_sub_u64-h.result in (0 < h) × (h < 2 ^ 53) = let t = (and-eq-true_iff _ _).0 c.if-h.true in (ltb-true _ _ t.0, ltb-true _ _ t.1) in
-    let r = in-range in record { lo_bound = c.requires.lower; h_nonzero = r.0; h_bound = r.1 }
+    let r = in-range in record { h_nonzero = r.0; h_bound = r.1 }
 
 pub from_units-requires : goal.from_units-requires
 from_units-requires c = let in-range : let h = c.wrapping_sub_u64-h.result in (0 < h) × (h < 2 ^ 53) = let t = (and-eq-true_iff _ _).0 c.if-h.true in (ltb-true _ _ t.0, ltb-true _ _ t.1) in

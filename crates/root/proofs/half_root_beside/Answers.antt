@@ -10,7 +10,7 @@ overflow_add-h c = let in-range : (1 < c.args.h) × (c.args.h < 2 ^ 53 - 1) = le
 
 pub is_half-requires : goal.is_half-requires
 is_half-requires c = let in-range : (1 < c.args.h) × (c.args.h < 2 ^ 53 - 1) = let t = (and-eq-true_iff _ _).0 c.if-h.true in (ltb-true _ _ t.0, ltb-true _ _ t.1) in
-    let r = in-range in record { lo_bound = c.requires.lower; h_nonzero = omega (arith, r.0); h_bound = omega (arith, r.1) }
+    let r = in-range in record { h_nonzero = omega (arith, r.0); h_bound = omega (arith, r.1) }
 
 pub overflow_add-h-then-is_half : goal.overflow_add-h-then-is_half
 overflow_add-h-then-is_half c = let in-range : (1 < c.args.h) × (c.args.h < 2 ^ 53 - 1) = let t = (and-eq-true_iff _ _).0 c.if-h.true in (ltb-true _ _ t.0, ltb-true _ _ t.1) in
@@ -31,7 +31,7 @@ overflow_sub-h c = let in-range : (1 < c.args.h) × (c.args.h < 2 ^ 53 - 1) = le
 
 pub is_half-requires-then-h : goal.is_half-requires-then-h
 is_half-requires-then-h c = let in-range : (1 < c.args.h) × (c.args.h < 2 ^ 53 - 1) = let t = (and-eq-true_iff _ _).0 c.if-h.true in (ltb-true _ _ t.0, ltb-true _ _ t.1) in
-    let r = in-range in record { lo_bound = c.requires.lower; h_nonzero = omega (arith, r.0); h_bound = omega (arith, r.1) }
+    let r = in-range in record { h_nonzero = omega (arith, r.0); h_bound = omega (arith, r.1) }
 
 pub overflow_sub-h-then-is_half-2 : goal.overflow_sub-h-then-is_half-2
 overflow_sub-h-then-is_half-2 c = let in-range : (1 < c.args.h) × (c.args.h < 2 ^ 53 - 1) = let t = (and-eq-true_iff _ _).0 c.if-h.true in (ltb-true _ _ t.0, ltb-true _ _ t.1) in

@@ -24,7 +24,7 @@ overflow_sub-e-2 c = let h = c.requires in omega (arith, (exponents _ _ _ c.inte
 pub half_root-requires : goal.half_root-requires
 half_root-requires c = let h = c.requires in
     let w = hi_range _ _ _ c.integer_decode-d.ensures h.b_bound h.b_nonzero in
-    record { upper = w.1; lower = lit< tt; full = λ _. w.0; exponent = omega (arith, (exponents _ _ _ c.integer_decode-d.ensures h.b_bound h.b_nonzero).2) }
+    record { upper = w.1; full = λ _. w.0; exponent = omega (arith, (exponents _ _ _ c.integer_decode-d.ensures h.b_bound h.b_nonzero).2) }
 
 pub returns : goal.returns
 returns c = let h = c.requires in c.half_root.ensures ∙ root_found _ _ _ c.integer_decode-d.ensures h.b_bound h.b_nonzero

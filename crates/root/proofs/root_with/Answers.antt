@@ -3,14 +3,11 @@ use Rattle.std.proofs.Common.{T, sym, ap, ◌∙◌, subst, arith}
 use lib.Ieee.{binary64, fits}
 use lib.Ieee.Bits.{of_bits-to_bits}
 use Rattle.root.specs.Root.{root_of}
-use Rattle.root.proofs.Laws.Patterns.{not_nan, nan_root, no_root, zero_root, minus_zero_root, below_root, top_root}
+use Rattle.root.proofs.Laws.Patterns.{is_nan_differs, nan_root, nan_value, zero_root, minus_zero_root, below_root, top_root}
 use Rattle.root.proofs.root_with.Goals as goal
 
-pub returns-then-x : goal.returns-then-x
-returns-then-x c = nan_root c.args.x c.if-x.true
-
-pub float_to_bits-b : goal.float_to_bits-b
-float_to_bits-b c = not_nan c.args.x c.if-x.false
+pub returns-then-is_nan : goal.returns-then-is_nan
+returns-then-is_nan c = nan_root c.args.x (is_nan_differs _ (sym c.is_nan.ensures.value ∙ c.if-is_nan.true))
 
 pub returns-then-b-eq0 : goal.returns-then-b-eq0
 returns-then-b-eq0 c = let held : T (fits binary64 c.args.x) = subst T (sym c.well_formed.0.1) tt in
@@ -22,7 +19,7 @@ returns-then-b c = let held : T (fits binary64 c.args.x) = subst T (sym c.well_f
 
 pub returns-then-b-gt9223372036854775808 : goal.returns-then-b-gt9223372036854775808
 returns-then-b-gt9223372036854775808 c = let held : T (fits binary64 c.args.x) = subst T (sym c.well_formed.0.1) tt in
-    no_root ∙ below_root c.args.x held c.if-b-gt9223372036854775808.true
+    nan_value ∙ below_root c.args.x held c.if-b-gt9223372036854775808.true
 
 pub returns-then-b-ge9218868437227405312 : goal.returns-then-b-ge9218868437227405312
 returns-then-b-ge9218868437227405312 c = let held : T (fits binary64 c.args.x) = subst T (sym c.well_formed.0.1) tt in

@@ -8,7 +8,7 @@ pub sum-requires : goal.sum-requires
 sum-requires c = let A = c.square.ensures in
     let B = c.square-2.ensures in
     let Q = c.quotient.ensures in
-    record { hi_bound = upper_lt _ _ _ A.value (square_below c.args.a c.requires.a_bound); lo_bound = A.low; hi_bound_2 = upper_lt _ _ _ Q.value (lt_of_le_of_lt (le_trans (div-le_self _ _) (le_of_eq B.value)) (square_below c.args.b c.requires.b_bound)); lo_bound_2 = Q.low }
+    record { hi_bound = upper_lt _ _ _ A.value (square_below c.args.a c.requires.a_bound); hi_bound_2 = upper_lt _ _ _ Q.value (lt_of_le_of_lt (le_trans (div-le_self _ _) (le_of_eq B.value)) (square_below c.args.b c.requires.b_bound)) }
 
 pub returns : goal.returns
 returns c = let A = c.square.ensures in
@@ -18,6 +18,5 @@ returns c = let A = c.square.ensures in
     let k = c.args.k in
     record {
       value = S.value ∙ ap₂ (λ (x y : ℕ). x + y) A.value (Q.value ∙ ap (λ (x : ℕ). x / 4 ^ k) B.value);
-      low = S.low;
       flag = S.flag ∙ Q.flag ∙ ap₂ (λ (b : Bool) (x : ℕ). b || ltb 0 (x % 4 ^ k)) B.flag B.value;
     }

@@ -1,7 +1,7 @@
--- `root::square` meets its contract (`specs/Wide.antt`). Assumes nothing.
+-- `Wide::square` meets its contract (`specs/Wide.antt`). Assumes nothing.
 use Rattle.std.proofs.Common.{refl, arith}
 use Rattle.root.proofs.Laws.Wide.{products, square_whole}
-use Rattle.root.proofs.square.Goals as goal
+use Rattle.root.proofs.wide.Wide.square.Goals as goal
 
 pub overflow_mul-c : goal.overflow_mul-c
 overflow_mul-c c = omega (arith, (products c.args.m c.requires).ab)
@@ -22,4 +22,4 @@ pub overflow_add-hi-2 : goal.overflow_add-hi-2
 overflow_add-hi-2 c = let P = products c.args.m c.requires in omega (arith, P.aa, P.ab, P.bb)
 
 pub returns : goal.returns
-returns c = record { value = square_whole c.args.m; low = omega arith; flag = refl }
+returns c = record { value = square_whole c.args.m; flag = refl }
