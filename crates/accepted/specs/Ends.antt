@@ -1,15 +1,10 @@
 -- What a call leaves that is not refused is what the model defines.
-use Rattle.std.specs.Prelude.{ℕ, ◌≡◌, List, ◌++◌, Bool, cond, eqb, length, drop, Float}
+use Rattle.std.specs.Prelude.{ℕ, ◌≡◌, List, ◌++◌, Bool, cond, eqb, length, drop, Float, Ok}
 use Rattle.std.proofs.Common.{sym, ◌∙◌}
 use Rattle.std.proofs.Math.Path.{ap}
 use Rattle.complex.specs.declared.Complex.{Complex}
-use Rattle.model.specs.declared.Answer.{Answer}
-use Rattle.model.specs.declared.Answer.TheVariants as answer
-use Rattle.model.specs.declared.Applied.{Applied}
 use Rattle.model.specs.declared.Projected.{Projected}
-use Rattle.model.specs.declared.Measured.{Measured}
-use Rattle.model.specs.declared.Measured.TheVariants as measured
-use Rattle.model.specs.declared.Contracted.TheVariants as contracted
+use Rattle.model.specs.Answers.{Answer, Applied, Measured}
 use Rattle.model.specs.Chain.{site_of}
 use Rattle.model.specs.Slots.{State}
 use Rattle.model.specs.Routing.{gate_run, gate_reason}
@@ -43,23 +38,23 @@ module _ (s : State) (work : List Float) (q flag : ℕ) (draw : Float) where
   drawn site = drawn_at site draw (readied site s)
 
   pub measure_ends : (site : ℕ) (a : Measured) (t : State) (left : List Float)
-      → measure_refusal s work q flag draw ≡ 0 → site ≡ site_of s.chain q → a ≡ measured.Bit (drawn site) → t ≡ flagged flag (drawn site) (projected_at site (drawn site) (readied site s)) → left ≡ cleared s.chain work
+      → measure_refusal s work q flag draw ≡ 0 → site ≡ site_of s.chain q → a ≡ Ok (drawn site) → t ≡ flagged flag (drawn site) (projected_at site (drawn site) (readied site s)) → left ≡ cleared s.chain work
       → after a t left ≡ measure_call s work q flag draw
   unfolding measure_call
   measure_ends site a t left none es ea et el =
-      ended _ _ _ none ((λ i. after (ea i) (et i) (el i)) ∙ ap (λ (k : ℕ). after (measured.Bit (drawn k)) (flagged flag (drawn k) (projected_at k (drawn k) (readied k s))) (cleared s.chain work)) es)
+      ended _ _ _ none ((λ i. after (ea i) (et i) (el i)) ∙ ap (λ (k : ℕ). after (Ok (drawn k)) (flagged flag (drawn k) (projected_at k (drawn k) (readied k s))) (cleared s.chain work)) es)
 
 pub reset_ends : (s : State) (work : List Float) (q : ℕ) (draw : Float) (site : ℕ) (a : Answer) (t : State) (left : List Float)
-    → reset_refusal s work q draw ≡ 0 → site ≡ site_of s.chain q → a ≡ answer.Done → t ≡ reset_at site (drawn_at site draw (readied site s)) (readied site s) → left ≡ cleared s.chain work
+    → reset_refusal s work q draw ≡ 0 → site ≡ site_of s.chain q → a ≡ Ok tt → t ≡ reset_at site (drawn_at site draw (readied site s)) (readied site s) → left ≡ cleared s.chain work
     → after a t left ≡ reset_call s work q draw
 unfolding reset_call
 reset_ends s work q draw site a t left none es ea et el =
-    ended _ _ _ none ((λ i. after (ea i) (et i) (el i)) ∙ ap (λ (k : ℕ). after answer.Done (reset_at k (drawn_at k draw (readied k s)) (readied k s)) (cleared s.chain work)) es)
+    ended _ _ _ none ((λ i. after (ea i) (et i) (el i)) ∙ ap (λ (k : ℕ). after (Ok tt) (reset_at k (drawn_at k draw (readied k s)) (readied k s)) (cleared s.chain work)) es)
 
 -- ---- environments
 
 pub walk_ends : (s : State) (work out : List Float) (end site : ℕ) (e : Env) (dim : ℕ) (entries left result : List Float)
     → env_refusal s work out end site ≡ 0 → dim ≡ e.dim → entries ≡ e.entries → left ≡ cleared s.chain work → result ≡ entries ++ drop (length entries) out
-    → walked (contracted.Dim dim) left result ≡ env_after (env_refusal s work out end site) e s work out
+    → walked (Ok dim) left result ≡ env_after (env_refusal s work out end site) e s work out
 walk_ends s work out end site e dim entries left result none ed ee el er =
-    ended _ _ _ none (λ i. walked (contracted.Dim (ed i)) (el i) ((er ∙ ap (λ (xs : List Float). xs ++ drop (length xs) out) ee) i))
+    ended _ _ _ none (λ i. walked (Ok (ed i)) (el i) ((er ∙ ap (λ (xs : List Float). xs ++ drop (length xs) out) ee) i))

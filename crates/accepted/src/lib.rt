@@ -2,14 +2,14 @@
 // `chain` alone.
 #![tactic(auto)]
 
-ghost use Rattle.std.specs.Prelude.{◌≡◌};
+ghost use Rattle.std.specs.Prelude.{◌≡◌, Ok};
 ghost use Rattle.model.specs.Slots.{held};
 ghost use Rattle.model.specs.Calls.{after, walked, gate_refusal, gate_call, project_refusal, project_call, measure_refusal, measure_call, reset_refusal, reset_call, env_refusal, left_environment_call, right_environment_call};
 
-use columns::{fill_zero, wide};
+use columns::fill_zero;
 use complex::Complex;
 use environments::{compute_left_env, compute_right_env, write_environment};
-use model::{Chain, Contracted, Gated, Measurement, Projection, Reset};
+use model::{Applied, Chain, Projected};
 use outcomes::{apply_measure, apply_reset, project_z_outcome};
 use refusals::work_room;
 use routing::apply_two_qubit_gate;
@@ -18,15 +18,15 @@ use routing::apply_two_qubit_gate;
 
 // A gate on the qubits q0 and q1, routed to them by swaps.
 pub fn run_gate(
-    chain: Chain,
+    chain: &mut Chain,
     store: &mut [f64],
     work: &mut [f64],
     q0: usize,
     q1: usize,
     gate: [[Complex; 4]; 4],
-) -> Gated
-    requires { gate_refusal (held chain store.old) work.old q0 q1 gate ≡ 0 }
-    ensures { after result.answer (held result.chain store.new) work.new ≡ gate_call (held chain store.old) work.old q0 q1 gate }
+) -> Applied
+    requires { gate_refusal (held chain.old store.old) work.old q0 q1 gate ≡ 0 }
+    ensures { after result (held chain.new store.new) work.new ≡ gate_call (held chain.old store.old) work.old q0 q1 gate }
 {
     let room = work_room(chain.max_bond_dim);
     let out = apply_two_qubit_gate(chain, store, &mut work[..room], gate, q0, q1);
@@ -38,17 +38,17 @@ pub fn run_gate(
 
 // Qubit q projected on the outcome `bit`.
 pub fn run_project(
-    chain: Chain,
+    chain: &mut Chain,
     store: &mut [f64],
     work: &mut [f64],
     q: usize,
     bit: bool,
-) -> Projection
-    requires { project_refusal (held chain store.old) work.old q ≡ 0 }
-    ensures { after result.answer (held result.chain store.new) work.new ≡ project_call (held chain store.old) work.old q bit }
+) -> Projected
+    requires { project_refusal (held chain.old store.old) work.old q ≡ 0 }
+    ensures { after result (held chain.new store.new) work.new ≡ project_call (held chain.old store.old) work.old q bit }
 {
     let room = work_room(chain.max_bond_dim);
-    let site = wide(chain.logical_to_site[q]);
+    let site = usize::from(chain.logical_to_site[q]);
     let out = project_z_outcome(chain, store, &mut work[..room], site, bit);
     fill_zero(&mut work[..room]);
     out
@@ -56,71 +56,70 @@ pub fn run_project(
 
 // Qubit q measured by a draw, into a flag.
 pub fn run_measure(
-    chain: Chain,
+    chain: &mut Chain,
     store: &mut [f64],
     work: &mut [f64],
     q: usize,
     flag: usize,
     draw: f64,
-) -> Measurement
-    requires { measure_refusal (held chain store.old) work.old q flag draw ≡ 0 }
-    ensures { after result.answer (held result.chain store.new) work.new ≡ measure_call (held chain store.old) work.old q flag draw }
+) -> bool
+    requires { measure_refusal (held chain.old store.old) work.old q flag draw ≡ 0 }
+    ensures { after (Ok result) (held chain.new store.new) work.new ≡ measure_call (held chain.old store.old) work.old q flag draw }
 {
     let room = work_room(chain.max_bond_dim);
-    let site = wide(chain.logical_to_site[q]);
-    let out = apply_measure(chain, store, &mut work[..room], site, flag, draw);
+    let site = usize::from(chain.logical_to_site[q]);
+    let seen = apply_measure(chain, store, &mut work[..room], site, flag, draw);
     fill_zero(&mut work[..room]);
-    out
+    seen
 }
 
 // Qubit q reset to 0, by a draw.
-pub fn run_reset(chain: Chain, store: &mut [f64], work: &mut [f64], q: usize, draw: f64) -> Reset
-    requires { reset_refusal (held chain store.old) work.old q draw ≡ 0 }
-    ensures { after result.answer (held result.chain store.new) work.new ≡ reset_call (held chain store.old) work.old q draw }
+pub fn run_reset(chain: &mut Chain, store: &mut [f64], work: &mut [f64], q: usize, draw: f64)
+    requires { reset_refusal (held chain.old store.old) work.old q draw ≡ 0 }
+    ensures { after (Ok tt) (held chain.new store.new) work.new ≡ reset_call (held chain.old store.old) work.old q draw }
 {
     let room = work_room(chain.max_bond_dim);
-    let site = wide(chain.logical_to_site[q]);
-    let out = apply_reset(chain, store, &mut work[..room], site, draw);
+    let site = usize::from(chain.logical_to_site[q]);
+    apply_reset(chain, store, &mut work[..room], site, draw);
     fill_zero(&mut work[..room]);
-    out
 }
 
 // ---- environments: the record and the store are only read
 
 // The left environment of a site, the sites from `from` on contracted, into the result slice.
 pub fn run_left_environment(
-    chain: Chain,
+    chain: &Chain,
     store: &[f64],
     work: &mut [f64],
     out: &mut [f64],
     from: usize,
     site: usize,
-) -> Contracted
-    requires { env_refusal (held chain store.now) work.old out.old from site ≡ 0 }
-    ensures { walked result work.new out.new ≡ left_environment_call (held chain store.now) work.old out.old from site }
+) -> usize
+    requires { env_refusal (held chain.now store.now) work.old out.old from site ≡ 0 }
+    ensures { walked (Ok result) work.new out.new ≡ left_environment_call (held chain.now store.now) work.old out.old from site }
 {
     let room = work_room(chain.max_bond_dim);
     let left_dim = compute_left_env(chain, store, &mut work[..room], from, site);
     write_environment(out, work, left_dim);
     fill_zero(&mut work[..room]);
-    Contracted::Dim(left_dim)
+    left_dim
 }
 
 // The right environment of a site, the sites from `to` back to the next one contracted, into the result slice.
 pub fn run_right_environment(
-    chain: Chain,
+    chain: &Chain,
     store: &[f64],
     work: &mut [f64],
     out: &mut [f64],
     site: usize,
     to: usize,
-) -> Contracted
-    requires { env_refusal (held chain store.now) work.old out.old to site ≡ 0 }
-    ensures { walked result work.new out.new ≡ right_environment_call (held chain store.now) work.old out.old site to }
+) -> usize
+    requires { env_refusal (held chain.now store.now) work.old out.old to site ≡ 0 }
+    ensures { walked (Ok result) work.new out.new ≡ right_environment_call (held chain.now store.now) work.old out.old site to }
 {
     let room = work_room(chain.max_bond_dim);
     let right_dim = compute_right_env(chain, store, &mut work[..room], site, to);
     write_environment(out, work, right_dim);
     fill_zero(&mut work[..room]);
-    Contracted::Dim(right_dim)
+    right_dim
 }

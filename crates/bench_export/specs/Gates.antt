@@ -5,7 +5,7 @@ use Rattle.complex.specs.Loops.{each, each_more}
 use Rattle.complex.specs.Parts.{part}
 use Rattle.complex.specs.declared.Complex.{Complex}
 use Rattle.model.specs.declared.Chain.{Chain}
-use Rattle.model.specs.declared.Applied.{Applied}
+use Rattle.model.specs.Answers.{Applied}
 use Rattle.model.specs.Slots.{held}
 use Rattle.model.specs.Calls.{After, start_call, gate_call}
 use Rattle.record.specs.GateBytes.{gate_read}

@@ -10,13 +10,6 @@ use chain::{apply_gate, start};
 use model::Chain;
 use record::read_gate;
 
-// A byte as a number.
-fn wide(x: u8) -> usize
-    ensures { result ≡ x }
-{
-    x as usize
-}
-
 // The gate in the bytes of a record, on the qubits q0 and q1.
 fn apply_record(
     chain: Chain,
@@ -29,8 +22,7 @@ fn apply_record(
     ensures { left result store.new work.new ≡ gate_on q0 q1 (gate_read bytes.now) (left chain store.old work.old) }
 {
     let gate = read_gate(bytes);
-    let out = apply_gate(chain, store, work, q0, q1, gate);
-    out.chain
+    apply_gate(chain, store, work, q0, q1, gate).chain
 }
 
 // Record k of the bytes.
@@ -40,8 +32,8 @@ fn apply_at(chain: Chain, store: &mut [f64], work: &mut [f64], gates: &[u8], k: 
 {
     let a = 262 * k;
     let b = a + 262;
-    let q0 = wide(gates[a + 4]);
-    let q1 = wide(gates[a + 5]);
+    let q0 = usize::from(gates[a + 4]);
+    let q1 = usize::from(gates[a + 5]);
     apply_record(chain, store, work, &gates[a..b], q0, q1)
 }
 
@@ -73,7 +65,6 @@ pub extern "C" fn jondwave_gates(
     ensures work_after { work.new ≡ (gates_from n d epsilon clamp gates.now store.old work.old).work }
 {
     let first = start(n, d, epsilon, clamp, 63, store);
-    let chain = first.chain;
-    let out = apply_records(chain, store, work, gates);
+    let out = apply_records(first.chain, store, work, gates);
     out.truncation_discarded
 }

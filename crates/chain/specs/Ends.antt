@@ -1,5 +1,5 @@
 -- What a refused call leaves is what the model defines, and so is what start and a gate by its name leave. k is the number that the call is refused under, 0 where it is not.
-use Rattle.std.specs.Prelude.{ℕ, ◌≤◌, ◌≡◌, List, Bool, not, cond, length, Float}
+use Rattle.std.specs.Prelude.{ℕ, zero, suc, ◌≤◌, ◌≡◌, List, Bool, not, cond, length, Float, Ok, Err}
 use Rattle.std.proofs.Math.Path.{refl}
 use Rattle.std.proofs.Common.{sym, ap, ◌∙◌, arith, ltb-false}
 use Rattle.std.proofs.Math.Bool.{true, false}
@@ -8,18 +8,24 @@ use Rattle.complex.specs.declared.Complex.{Complex}
 use Rattle.gates.specs.declared.NamedGate.{NamedGate}
 use Rattle.gates.specs.Named.{matrix_of}
 use Rattle.model.specs.declared.Chain.{Chain}
-use Rattle.model.specs.declared.Answer.TheVariants as answer
-use Rattle.model.specs.declared.Applied.{Applied}
-use Rattle.model.specs.declared.Applied.TheVariants as applied
 use Rattle.model.specs.declared.Projected.TheVariants as projected
-use Rattle.model.specs.declared.Measured.TheVariants as measured
-use Rattle.model.specs.declared.Contracted.TheVariants as contracted
+use Rattle.model.specs.Answers.{Answer, Applied, refusal_of}
 use Rattle.model.specs.Slots.{State, store_room}
 use Rattle.model.specs.Environment.{Env}
 use Rattle.model.specs.Sound.{settings_fit}
 use Rattle.model.specs.Start.{fresh_chain, fresh_store, zero_chain}
 use Rattle.model.specs.Calls.{After, after, Started, started, start_call, gate_refusal, gate_call, named_gate_call, project_refusal, project_call, measure_refusal, measure_call, reset_refusal, reset_call, walked, env_refusal, env_after}
 use Rattle.model.proofs.Laws.SoundFacts.{settings_facts}
+
+-- ---- the number, by the answer that tells whether a call is refused
+
+pub refused_by : (number k : ℕ) → ◌≡◌ {A = Answer} (Err k) (refusal_of number) → (k ≡ number) × (k ≡ 0 → ⊥)
+refused_by zero k e = let z : ◌≡◌ {A = ℕ} 0 1 = cc in absurd (omega arith)
+refused_by (suc n) k e = let f : k ≡ suc n = cc in (f, λ z. omega arith)
+
+pub passed_by : (number : ℕ) {x : Unit {0}} → ◌≡◌ {A = Answer} (Ok x) (refusal_of number) → number ≡ 0
+passed_by zero e = refl
+passed_by (suc n) e = cc
 
 -- ---- a refused call
 
@@ -31,24 +37,24 @@ turned f x {k} {number} e above = ap f e ∙ either (eqb number 0) (lib.Dec.eqb�
     either false g = refl
 
 module _ (s : State) (work : List Float) where
-  pub gate_refused : (q0 q1 : ℕ) (gate : List (List Complex)) (k : ℕ) → k ≡ gate_refusal s work q0 q1 gate → (k ≡ 0 → ⊥) → after (applied.Refused k) s work ≡ gate_call s work q0 q1 gate
+  pub gate_refused : (q0 q1 : ℕ) (gate : List (List Complex)) (k : ℕ) → k ≡ gate_refusal s work q0 q1 gate → (k ≡ 0 → ⊥) → after (Err k) s work ≡ gate_call s work q0 q1 gate
   unfolding gate_call
-  gate_refused q0 q1 gate k = turned (λ (n : ℕ). after (applied.Refused n) s work) _
+  gate_refused q0 q1 gate k = turned (λ (n : ℕ). after (Err n) s work) _
 
   pub project_refused : (q : ℕ) (o : Bool) (k : ℕ) → k ≡ project_refusal s work q → (k ≡ 0 → ⊥) → after (projected.Refused k) s work ≡ project_call s work q o
   unfolding project_call
   project_refused q o k = turned (λ (n : ℕ). after (projected.Refused n) s work) _
 
-  pub measure_refused : (q flag : ℕ) (draw : Float) (k : ℕ) → k ≡ measure_refusal s work q flag draw → (k ≡ 0 → ⊥) → after (measured.Refused k) s work ≡ measure_call s work q flag draw
+  pub measure_refused : (q flag : ℕ) (draw : Float) (k : ℕ) → k ≡ measure_refusal s work q flag draw → (k ≡ 0 → ⊥) → after (Err k) s work ≡ measure_call s work q flag draw
   unfolding measure_call
-  measure_refused q flag draw k = turned (λ (n : ℕ). after (measured.Refused n) s work) _
+  measure_refused q flag draw k = turned (λ (n : ℕ). after (Err n) s work) _
 
-  pub reset_refused : (q : ℕ) (draw : Float) (k : ℕ) → k ≡ reset_refusal s work q draw → (k ≡ 0 → ⊥) → after (answer.Refused k) s work ≡ reset_call s work q draw
+  pub reset_refused : (q : ℕ) (draw : Float) (k : ℕ) → k ≡ reset_refusal s work q draw → (k ≡ 0 → ⊥) → after (Err k) s work ≡ reset_call s work q draw
   unfolding reset_call
-  reset_refused q draw k = turned (λ (n : ℕ). after (answer.Refused n) s work) _
+  reset_refused q draw k = turned (λ (n : ℕ). after (Err n) s work) _
 
-  pub walk_refused : (out : List Float) (end site : ℕ) (e : Env) (k : ℕ) → k ≡ env_refusal s work out end site → (k ≡ 0 → ⊥) → walked (contracted.Refused k) work out ≡ env_after (env_refusal s work out end site) e s work out
-  walk_refused out end site e k = turned (λ (n : ℕ). walked (contracted.Refused n) work out) _
+  pub walk_refused : (out : List Float) (end site : ℕ) (e : Env) (k : ℕ) → k ≡ env_refusal s work out end site → (k ≡ 0 → ⊥) → walked (Err k) work out ≡ env_after (env_refusal s work out end site) e s work out
+  walk_refused out end site e k = turned (λ (n : ℕ). walked (Err n) work out) _
 
 -- ---- a gate by its name
 
@@ -79,24 +85,24 @@ module _ (n d : ℕ) (epsilon clamp : Float) (exponent : ℕ) (store : List Floa
   -- the call, by its two tests
   abbrev tested : Bool → Bool → Started
   tested fit short =
-      cond (not fit) (started (answer.Refused 1) zero_chain store)
-      (cond short (started (answer.Refused 2) zero_chain store) (started answer.Done (fresh_chain n d epsilon clamp exponent) (fresh_store n d store)))
+      cond (not fit) (started (Err 1) zero_chain store)
+      (cond short (started (Err 2) zero_chain store) (started (Ok tt) (fresh_chain n d epsilon clamp exponent) (fresh_store n d store)))
 
   pub start_ends : (c : Chain) (left : List Float) → k ≡ 0 → c ≡ fresh_chain n d epsilon clamp exponent → left ≡ fresh_store n d store
-      → started answer.Done c left ≡ start_call n d epsilon clamp exponent store
+      → started (Ok tt) c left ≡ start_call n d epsilon clamp exponent store
   unfolding start_call
-  start_ends c left z ec el = (λ i. started answer.Done (ec i) (el i)) ∙ go (settings_fit n d epsilon clamp exponent) (ltb (length store) (store_room n d)) (sym e ∙ z)
+  start_ends c left z ec el = (λ i. started (Ok tt) (ec i) (el i)) ∙ go (settings_fit n d epsilon clamp exponent) (ltb (length store) (store_room n d)) (sym e ∙ z)
     where
-      go : (fit short : Bool) → start_number fit short ≡ 0 → started answer.Done (fresh_chain n d epsilon clamp exponent) (fresh_store n d store) ≡ tested fit short
+      go : (fit short : Bool) → start_number fit short ≡ 0 → started (Ok tt) (fresh_chain n d epsilon clamp exponent) (fresh_store n d store) ≡ tested fit short
       go true false z = refl
       go true true z = absurd (omega (arith, z))
       go false short z = absurd (omega (arith, z))
 
-  pub start_refused : (c : Chain) → (k ≡ 0 → ⊥) → c ≡ zero_chain → started (answer.Refused k) c store ≡ start_call n d epsilon clamp exponent store
+  pub start_refused : (c : Chain) → (k ≡ 0 → ⊥) → c ≡ zero_chain → started (Err k) c store ≡ start_call n d epsilon clamp exponent store
   unfolding start_call
-  start_refused c above ec = (λ i. started (answer.Refused (e i)) (ec i) store) ∙ go (settings_fit n d epsilon clamp exponent) (ltb (length store) (store_room n d)) (λ z. above (e ∙ z))
+  start_refused c above ec = (λ i. started (Err (e i)) (ec i) store) ∙ go (settings_fit n d epsilon clamp exponent) (ltb (length store) (store_room n d)) (λ z. above (e ∙ z))
     where
-      go : (fit short : Bool) → (start_number fit short ≡ 0 → ⊥) → started (answer.Refused (start_number fit short)) zero_chain store ≡ tested fit short
+      go : (fit short : Bool) → (start_number fit short ≡ 0 → ⊥) → started (Err (start_number fit short)) zero_chain store ≡ tested fit short
       go true false above = absurd (above refl)
       go true true above = refl
       go false short above = refl

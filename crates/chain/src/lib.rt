@@ -5,6 +5,7 @@
 
 ghost use Rattle.std.specs.Prelude.{◌≡◌};
 ghost use Rattle.model.specs.Slots.{held};
+ghost use Rattle.model.specs.Start.{zero_chain};
 ghost use Rattle.model.specs.Calls.{after, started, walked, start_call, gate_call, named_gate_call, project_call, measure_call, reset_call, left_environment_call, right_environment_call};
 
 use accepted::{
@@ -12,35 +13,62 @@ use accepted::{
 };
 use complex::Complex;
 use fresh::{fresh_chain, fresh_store, zero_chain};
-use gates::{NamedGate, is_finite, matrix_4x4};
+use gates::{NamedGate, is_finite};
 use model::{
-    Answer, Applied, Chain, Contracted, Gated, Measured, Measurement, Projected, Projection, Reset,
-    Start,
+    After, Answer, Applied, Chain, Contracted, Gated, Measured, Measurement, Projected, Projection,
+    Reset, Start,
 };
 use refusals::{call_refusal, start_refusal, walk_refusal};
 use sound::is_share;
+
+// ---- the fresh chain
+
+// What start answers and leaves of the all-zero record.
+fn try_start(
+    chain: &mut Chain,
+    n: usize,
+    d: usize,
+    epsilon: f64,
+    clamp: f64,
+    exponent: u8,
+    store: &mut [f64],
+) -> Answer
+    requires { chain.old ≡ zero_chain }
+    ensures { started result chain.new store.new ≡ start_call n d epsilon clamp exponent store.old }
+{
+    start_refusal(n, d, epsilon, clamp, exponent, store.len())?;
+    fresh_store(store, n, d);
+    *chain = fresh_chain(n, d, epsilon, clamp, exponent);
+    Ok(())
+}
 
 // A fresh chain of n qubits under the cap d.
 pub fn start(n: usize, d: usize, epsilon: f64, clamp: f64, exponent: u8, store: &mut [f64]) -> Start
     ensures { started result.answer result.chain store.new ≡ start_call n d epsilon clamp exponent store.old }
 {
-    let k = start_refusal(n, d, epsilon, clamp, exponent, store.len());
-    if k != 0 {
-        let none = zero_chain();
-        return Start {
-            answer: Answer::Refused(k),
-            chain: none,
-        };
-    }
-    fresh_store(store, n, d);
-    let chain = fresh_chain(n, d, epsilon, clamp, exponent);
-    Start {
-        answer: Answer::Done,
-        chain: chain,
-    }
+    let mut chain = zero_chain();
+    let answer = try_start(&mut chain, n, d, epsilon, clamp, exponent, store);
+    After { answer, chain }
 }
 
 // ---- gates
+
+// What a gate call answers and leaves.
+fn try_gate(
+    chain: &mut Chain,
+    store: &mut [f64],
+    work: &mut [f64],
+    q0: usize,
+    q1: usize,
+    gate: [[Complex; 4]; 4],
+) -> Applied
+    ensures { after result (held chain.new store.new) work.new ≡ gate_call (held chain.old store.old) work.old q0 q1 gate }
+{
+    let n = chain.num_qubits;
+    let outside = (n <= q0) | (n <= q1) | (q0 == q1);
+    call_refusal(chain, store.len(), work.len(), outside, !is_finite(gate))?;
+    run_gate(chain, store, work, q0, q1, gate)
+}
 
 // A gate on the qubits q0 and q1, routed to them by swaps.
 pub fn apply_gate(
@@ -53,16 +81,9 @@ pub fn apply_gate(
 ) -> Gated
     ensures { after result.answer (held result.chain store.new) work.new ≡ gate_call (held chain store.old) work.old q0 q1 gate }
 {
-    let n = chain.num_qubits;
-    let outside = (n <= q0) | (n <= q1) | (q0 == q1);
-    let k = call_refusal(chain, store.len(), work.len(), outside, !is_finite(gate));
-    if k != 0 {
-        return Gated {
-            answer: Applied::Refused(k),
-            chain: chain,
-        };
-    }
-    run_gate(chain, store, work, q0, q1, gate)
+    let mut chain = chain;
+    let answer = try_gate(&mut chain, store, work, q0, q1, gate);
+    After { answer, chain }
 }
 
 // A gate by its name.
@@ -76,24 +97,40 @@ pub fn apply_named_gate(
 ) -> Gated
     ensures { after result.answer (held result.chain store.new) work.new ≡ named_gate_call (held chain store.old) work.old q0 q1 name }
 {
-    let gate = matrix_4x4(name);
+    let gate = name.matrix_4x4();
     apply_gate(chain, store, work, q0, q1, gate)
 }
 
 // ---- outcomes
 
-// Qubit q projected on the outcome `bit`.
+// Qubit q projected on the outcome `bit`. A refusal is one of three answers that stand side by side, so that it is matched
+// and not handed on by the question mark.
 pub fn project(chain: Chain, store: &mut [f64], work: &mut [f64], q: usize, bit: bool) -> Projection
     ensures { after result.answer (held result.chain store.new) work.new ≡ project_call (held chain store.old) work.old q bit }
 {
-    let k = call_refusal(chain, store.len(), work.len(), chain.num_qubits <= q, false);
-    if k != 0 {
-        return Projection {
-            answer: Projected::Refused(k),
-            chain: chain,
-        };
-    }
-    run_project(chain, store, work, q, bit)
+    let mut chain = chain;
+    let n = chain.num_qubits;
+    let answer = match call_refusal(&chain, store.len(), work.len(), n <= q, false) {
+        Ok(()) => run_project(&mut chain, store, work, q, bit),
+        Err(number) => Projected::Refused(number),
+    };
+    After { answer, chain }
+}
+
+// What a measurement answers and leaves.
+fn try_measure(
+    chain: &mut Chain,
+    store: &mut [f64],
+    work: &mut [f64],
+    q: usize,
+    flag: usize,
+    draw: f64,
+) -> Measured
+    ensures { after result (held chain.new store.new) work.new ≡ measure_call (held chain.old store.old) work.old q flag draw }
+{
+    let outside = (chain.num_qubits <= q) | (64 <= flag);
+    call_refusal(chain, store.len(), work.len(), outside, !is_share(draw))?;
+    Ok(run_measure(chain, store, work, q, flag, draw))
 }
 
 // Qubit q measured by a draw, into a flag.
@@ -107,30 +144,28 @@ pub fn measure(
 ) -> Measurement
     ensures { after result.answer (held result.chain store.new) work.new ≡ measure_call (held chain store.old) work.old q flag draw }
 {
-    let outside = (chain.num_qubits <= q) | (64 <= flag);
-    let k = call_refusal(chain, store.len(), work.len(), outside, !is_share(draw));
-    if k != 0 {
-        return Measurement {
-            answer: Measured::Refused(k),
-            chain: chain,
-        };
-    }
-    run_measure(chain, store, work, q, flag, draw)
+    let mut chain = chain;
+    let answer = try_measure(&mut chain, store, work, q, flag, draw);
+    After { answer, chain }
+}
+
+// What a reset answers and leaves.
+fn try_reset(chain: &mut Chain, store: &mut [f64], work: &mut [f64], q: usize, draw: f64) -> Answer
+    ensures { after result (held chain.new store.new) work.new ≡ reset_call (held chain.old store.old) work.old q draw }
+{
+    let outside = chain.num_qubits <= q;
+    call_refusal(chain, store.len(), work.len(), outside, !is_share(draw))?;
+    run_reset(chain, store, work, q, draw);
+    Ok(())
 }
 
 // Qubit q reset to 0, by a draw.
 pub fn reset(chain: Chain, store: &mut [f64], work: &mut [f64], q: usize, draw: f64) -> Reset
     ensures { after result.answer (held result.chain store.new) work.new ≡ reset_call (held chain store.old) work.old q draw }
 {
-    let outside = chain.num_qubits <= q;
-    let k = call_refusal(chain, store.len(), work.len(), outside, !is_share(draw));
-    if k != 0 {
-        return Reset {
-            answer: Answer::Refused(k),
-            chain: chain,
-        };
-    }
-    run_reset(chain, store, work, q, draw)
+    let mut chain = chain;
+    let answer = try_reset(&mut chain, store, work, q, draw);
+    After { answer, chain }
 }
 
 // ---- environments: the record and the store are only read
@@ -148,11 +183,8 @@ pub fn left_environment(
 {
     let n = chain.num_qubits;
     let outside = (n <= from) | (n < site);
-    let k = walk_refusal(chain, store.len(), work.len(), out.len(), outside);
-    if k != 0 {
-        return Contracted::Refused(k);
-    }
-    run_left_environment(chain, store, work, out, from, site)
+    walk_refusal(&chain, store.len(), work.len(), out.len(), outside)?;
+    Ok(run_left_environment(&chain, store, work, out, from, site))
 }
 
 // The right environment of a site, the sites from `to` back to the next one contracted, into the result slice.
@@ -168,9 +200,6 @@ pub fn right_environment(
 {
     let n = chain.num_qubits;
     let outside = (n <= to) | (n < site);
-    let k = walk_refusal(chain, store.len(), work.len(), out.len(), outside);
-    if k != 0 {
-        return Contracted::Refused(k);
-    }
-    run_right_environment(chain, store, work, out, site, to)
+    walk_refusal(&chain, store.len(), work.len(), out.len(), outside)?;
+    Ok(run_right_environment(&chain, store, work, out, site, to))
 }

@@ -9,14 +9,14 @@ use Rattle.accepted.proofs.run_gate.Goals as goal
 pub work_room-room-requires : goal.work_room-room-requires
 work_room-room-requires c =
     let a = c.args in
-    let s = held a.chain a.store.now in
+    let s = held a.chain.now a.store.now in
     let g = gate_accepted s a.work.now a.q0 a.q1 a.gate (eq-eqb _ 0 c.requires) in
     g.sound.settings.cap.1
 
 pub apply_two_qubit_gate-out-requires : goal.apply_two_qubit_gate-out-requires
 apply_two_qubit_gate-out-requires c =
     let a = c.args in
-    let s = held a.chain a.store.now in
+    let s = held a.chain.now a.store.now in
     let g = gate_accepted s a.work.now a.q0 a.q1 a.gate (eq-eqb _ 0 c.requires) in
     let part = lent s a.work.now g.sound g.long c.work_room-room.result c.work_room-room.ensures in
     record { ready = part.ready; q0_bound = (g.first, g.second, g.two) }
@@ -24,7 +24,7 @@ apply_two_qubit_gate-out-requires c =
 pub returns : goal.returns
 returns c =
     let a = c.args in
-    let s = held a.chain a.store.now in
+    let s = held a.chain.now a.store.now in
     let g = gate_accepted s a.work.now a.q0 a.q1 a.gate (eq-eqb _ 0 c.requires) in
     let part = lent s a.work.now g.sound g.long c.work_room-room.result c.work_room-room.ensures in
     let r = c.apply_two_qubit_gate-out in

@@ -12,31 +12,31 @@ use Rattle.accepted.proofs.run_left_environment.Goals as goal
 pub work_room-room-requires : goal.work_room-room-requires
 work_room-room-requires c =
     let a = c.args in
-    let s = held a.chain a.store.now in
+    let s = held a.chain.now a.store.now in
     let g = walk_accepted s a.work.now a.out.now a.from a.site c.requires in
     g.sound.settings.cap.1
 
 pub write_environment-requires : goal.write_environment-requires
 write_environment-requires c =
     let a = c.args in
-    let s = held a.chain a.store.now in
+    let s = held a.chain.now a.store.now in
     let g = walk_accepted s a.work.now a.out.now a.from a.site c.requires in
     let part = lent s a.work.now g.sound g.long c.work_room-room.result c.work_room-room.ensures in
     let r = c.compute_left_env-left_dim in
     let square = left_env_squared s g.sound a.from a.site g.end_below g.site_within in
-    let most : r.result ≤ a.chain.max_bond_dim = omega (arith, square.most, r.ensures.value) in
+    let most : r.result ≤ a.chain.now.max_bond_dim = omega (arith, square.most, r.ensures.value) in
     entries_fit g part r.result most r.new.work r.auto.work
 
 pub returns : goal.returns
 unfolding left_environment_call
 returns c =
     let a = c.args in
-    let s = held a.chain a.store.now in
+    let s = held a.chain.now a.store.now in
     let g = walk_accepted s a.work.now a.out.now a.from a.site c.requires in
     let part = lent s a.work.now g.sound g.long c.work_room-room.result c.work_room-room.ensures in
     let r = c.compute_left_env-left_dim in
     let square = left_env_squared s g.sound a.from a.site g.end_below g.site_within in
-    let most : r.result ≤ a.chain.max_bond_dim = omega (arith, square.most, r.ensures.value) in
+    let most : r.result ≤ a.chain.now.max_bond_dim = omega (arith, square.most, r.ensures.value) in
     let z = c.fill_zero in
     let left = part.clear r.new.work z.new.s r.auto.work z.ensures in
     let result = written_entries g part r.result most r.new.work r.auto.work _ c.write_environment.ensures in

@@ -1,6 +1,8 @@
 -- The run at the qubit's site, in the front of the work slice, which is filled with +0 after it.
+use mathlib.Core.Path.{ap}
 use native.Mathlib.Omega.{arith}
 use borrow.Author.Tests.{eq-eqb}
+use Rattle.std.specs.Prelude.{Ok}
 use Rattle.model.specs.Slots.{held}
 use Rattle.model.proofs.Laws.Refusals.{measure_passes}
 use Rattle.accepted.specs.Accepted.{lent, flag_below}
@@ -10,32 +12,32 @@ use Rattle.accepted.proofs.run_measure.Goals as goal
 pub work_room-room-requires : goal.work_room-room-requires
 work_room-room-requires c =
     let a = c.args in
-    let s = held a.chain a.store.now in
+    let s = held a.chain.now a.store.now in
     let g = measure_passes s a.work.now a.q a.flag a.draw (eq-eqb _ 0 c.requires) in
     g.sound.settings.cap.1
 
 pub bounds-chain-q : goal.bounds-chain-q
 bounds-chain-q c =
     let a = c.args in
-    let s = held a.chain a.store.now in
+    let s = held a.chain.now a.store.now in
     let g = measure_passes s a.work.now a.q a.flag a.draw (eq-eqb _ 0 c.requires) in
     omega (arith, g.below, g.sound.settings.qubits.1)
 
-pub apply_measure-out-requires : goal.apply_measure-out-requires
-apply_measure-out-requires c =
+pub apply_measure-seen-requires : goal.apply_measure-seen-requires
+apply_measure-seen-requires c =
     let a = c.args in
-    let s = held a.chain a.store.now in
+    let s = held a.chain.now a.store.now in
     let g = measure_passes s a.work.now a.q a.flag a.draw (eq-eqb _ 0 c.requires) in
     let part = lent s a.work.now g.sound g.long c.work_room-room.result c.work_room-room.ensures in
-    record { ready = part.ready; k_bound = (omega (arith, c.wide-site.ensures, g.site_below), flag_below s a.work.now a.q a.flag a.draw c.requires) }
+    record { ready = part.ready; k_bound = (omega (arith, c.from-site.ensures, g.site_below), flag_below s a.work.now a.q a.flag a.draw c.requires) }
 
 pub returns : goal.returns
 returns c =
     let a = c.args in
-    let s = held a.chain a.store.now in
+    let s = held a.chain.now a.store.now in
     let g = measure_passes s a.work.now a.q a.flag a.draw (eq-eqb _ 0 c.requires) in
     let part = lent s a.work.now g.sound g.long c.work_room-room.result c.work_room-room.ensures in
-    let r = c.apply_measure-out in
+    let r = c.apply_measure-seen in
     let z = c.fill_zero in
     let left = part.clear r.new.work z.new.s r.auto.work z.ensures in
-    measure_ends _ _ _ _ _ _ _ _ _ c.requires c.wide-site.ensures r.ensures.answer_value r.ensures.store_after left
+    measure_ends _ _ _ _ _ _ _ _ _ c.requires c.from-site.ensures (ap Ok r.ensures.bit) r.ensures.store_after left

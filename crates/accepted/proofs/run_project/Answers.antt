@@ -10,32 +10,32 @@ use Rattle.accepted.proofs.run_project.Goals as goal
 pub work_room-room-requires : goal.work_room-room-requires
 work_room-room-requires c =
     let a = c.args in
-    let s = held a.chain a.store.now in
+    let s = held a.chain.now a.store.now in
     let g = project_passes s a.work.now a.q (eq-eqb _ 0 c.requires) in
     g.sound.settings.cap.1
 
 pub bounds-chain-q : goal.bounds-chain-q
 bounds-chain-q c =
     let a = c.args in
-    let s = held a.chain a.store.now in
+    let s = held a.chain.now a.store.now in
     let g = project_passes s a.work.now a.q (eq-eqb _ 0 c.requires) in
     omega (arith, g.below, g.sound.settings.qubits.1)
 
 pub project_z_outcome-out-requires : goal.project_z_outcome-out-requires
 project_z_outcome-out-requires c =
     let a = c.args in
-    let s = held a.chain a.store.now in
+    let s = held a.chain.now a.store.now in
     let g = project_passes s a.work.now a.q (eq-eqb _ 0 c.requires) in
     let part = lent s a.work.now g.sound g.long c.work_room-room.result c.work_room-room.ensures in
-    record { ready = part.ready; k_bound = omega (arith, c.wide-site.ensures, g.site_below) }
+    record { ready = part.ready; k_bound = omega (arith, c.from-site.ensures, g.site_below) }
 
 pub returns : goal.returns
 returns c =
     let a = c.args in
-    let s = held a.chain a.store.now in
+    let s = held a.chain.now a.store.now in
     let g = project_passes s a.work.now a.q (eq-eqb _ 0 c.requires) in
     let part = lent s a.work.now g.sound g.long c.work_room-room.result c.work_room-room.ensures in
     let r = c.project_z_outcome-out in
     let z = c.fill_zero in
     let left = part.clear r.new.work z.new.s r.auto.work z.ensures in
-    project_ends _ _ _ _ _ _ _ _ c.requires c.wide-site.ensures r.ensures.answer_value r.ensures.store_after left
+    project_ends _ _ _ _ _ _ _ _ c.requires c.from-site.ensures r.ensures.answer_value r.ensures.store_after left

@@ -1,4 +1,5 @@
 -- The run at the qubit's site, in the front of the work slice, which is filled with +0 after it.
+use mathlib.Core.Path.{refl}
 use native.Mathlib.Omega.{arith}
 use borrow.Author.Tests.{eq-eqb}
 use Rattle.model.specs.Slots.{held}
@@ -10,32 +11,32 @@ use Rattle.accepted.proofs.run_reset.Goals as goal
 pub work_room-room-requires : goal.work_room-room-requires
 work_room-room-requires c =
     let a = c.args in
-    let s = held a.chain a.store.now in
+    let s = held a.chain.now a.store.now in
     let g = reset_passes s a.work.now a.q a.draw (eq-eqb _ 0 c.requires) in
     g.sound.settings.cap.1
 
 pub bounds-chain-q : goal.bounds-chain-q
 bounds-chain-q c =
     let a = c.args in
-    let s = held a.chain a.store.now in
+    let s = held a.chain.now a.store.now in
     let g = reset_passes s a.work.now a.q a.draw (eq-eqb _ 0 c.requires) in
     omega (arith, g.below, g.sound.settings.qubits.1)
 
-pub apply_reset-out-requires : goal.apply_reset-out-requires
-apply_reset-out-requires c =
+pub apply_reset-requires : goal.apply_reset-requires
+apply_reset-requires c =
     let a = c.args in
-    let s = held a.chain a.store.now in
+    let s = held a.chain.now a.store.now in
     let g = reset_passes s a.work.now a.q a.draw (eq-eqb _ 0 c.requires) in
     let part = lent s a.work.now g.sound g.long c.work_room-room.result c.work_room-room.ensures in
-    record { ready = part.ready; k_bound = omega (arith, c.wide-site.ensures, g.site_below) }
+    record { ready = part.ready; k_bound = omega (arith, c.from-site.ensures, g.site_below) }
 
 pub returns : goal.returns
 returns c =
     let a = c.args in
-    let s = held a.chain a.store.now in
+    let s = held a.chain.now a.store.now in
     let g = reset_passes s a.work.now a.q a.draw (eq-eqb _ 0 c.requires) in
     let part = lent s a.work.now g.sound g.long c.work_room-room.result c.work_room-room.ensures in
-    let r = c.apply_reset-out in
+    let r = c.apply_reset in
     let z = c.fill_zero in
     let left = part.clear r.new.work z.new.s r.auto.work z.ensures in
-    reset_ends _ _ _ _ _ _ _ _ c.requires c.wide-site.ensures r.ensures.answer_value r.ensures.store_after left
+    reset_ends _ _ _ _ _ _ _ _ c.requires c.from-site.ensures refl r.ensures left
