@@ -18,13 +18,13 @@ overflow_add-n c = let h = c.requires in omega (arith, (zeros_range _ _ _ c.inte
 pub overflow_shl-n : goal.overflow_shl-n
 overflow_shl-n c = let h = c.requires in omega (arith, (zeros_range _ _ _ c.integer_decode-d.ensures h.b_bound h.b_nonzero).1)
 
-pub overflow_sub-e-2 : goal.overflow_sub-e-2
-overflow_sub-e-2 c = let h = c.requires in omega (arith, (exponents _ _ _ c.integer_decode-d.ensures h.b_bound h.b_nonzero).1)
+pub overflow_sub-radicand : goal.overflow_sub-radicand
+overflow_sub-radicand c = let h = c.requires in omega (arith, (exponents _ _ _ c.integer_decode-d.ensures h.b_bound h.b_nonzero).1)
 
-pub half_root-requires : goal.half_root-requires
-half_root-requires c = let h = c.requires in
+pub invariant_of-radicand : goal.invariant_of-radicand
+invariant_of-radicand c = let h = c.requires in
     let w = hi_range _ _ _ c.integer_decode-d.ensures h.b_bound h.b_nonzero in
-    record { upper = w.1; full = λ _. w.0; exponent = omega (arith, (exponents _ _ _ c.integer_decode-d.ensures h.b_bound h.b_nonzero).2) }
+    record { halvable = record { upper = w.1; full = λ _. w.0; exponent = omega (arith, (exponents _ _ _ c.integer_decode-d.ensures h.b_bound h.b_nonzero).2) } }
 
 pub returns : goal.returns
 returns c = let h = c.requires in c.half_root.ensures ∙ root_found _ _ _ c.integer_decode-d.ensures h.b_bound h.b_nonzero

@@ -1,11 +1,11 @@
--- `root::is_half` meets its contract. Assumes nothing.
+-- `Radicand::is_half` meets its contract. Assumes nothing.
 use Rattle.std.proofs.Common.{ℕ, Bool, ◌&&◌, ltb, ap, ◌∙◌, ap₂}
 use Rattle.root.specs.Wide.{whole}
-use Rattle.root.proofs.is_half.Goals as goal
+use Rattle.root.proofs.Radicand.is_half.Goals as goal
 
 pub returns : goal.returns
 returns c = let below = c in
-    let n = whole below.args.n in
+    let n = whole below.args.self.n in
     ap₂
     (λ (x y : Bool). x && y)
     (below.is_less.ensures ∙ ap (λ (s : ℕ). ltb s n) below.square.ensures.value)

@@ -1,8 +1,8 @@
--- `root::half_root` meets its contract: what `is_half` says is enough (`specs/HalfRoot.antt`). Assumes nothing.
+-- `Radicand::half_root` meets its contract: what `is_half` says is enough (`specs/HalfRoot.antt`). Assumes nothing.
 use Rattle.std.proofs.Common.{◌^◌, ◌<◌, sym, ◌∙◌, arith, ltb-true}
 use mathlib.Core.Bool.{and-eq-true_iff}
 use Rattle.root.proofs.Laws.HalfRoot.{tested_digits, tested}
-use Rattle.root.proofs.half_root.Goals as goal
+use Rattle.root.proofs.Radicand.half_root.Goals as goal
 
 pub is_half-passes-requires : goal.is_half-passes-requires
 is_half-passes-requires c = let in-range : let h = c.wrapping_sub_u64-h.result in (0 < h) × (h < 2 ^ 53) = let t = (and-eq-true_iff _ _).0 c.if-h.true in (ltb-true _ _ t.0, ltb-true _ _ t.1) in
@@ -10,9 +10,9 @@ is_half-passes-requires c = let in-range : let h = c.wrapping_sub_u64-h.result i
 
 pub from_units-requires : goal.from_units-requires
 from_units-requires c = let in-range : let h = c.wrapping_sub_u64-h.result in (0 < h) × (h < 2 ^ 53) = let t = (and-eq-true_iff _ _).0 c.if-h.true in (ltb-true _ _ t.0, ltb-true _ _ t.1) in
-    let d = tested_digits c.args.n c.args.g _ c.requires (omega (arith, in-range.0)) (sym c.is_half-passes.ensures ∙ c.if-passes.true) in
-    record { h_bound = d.0; bound = d.1; g_bound = c.requires.exponent }
+    let d = tested_digits c.args.self.n c.args.self.exponent _ c.args.self.halvable (omega (arith, in-range.0)) (sym c.is_half-passes.ensures ∙ c.if-passes.true) in
+    record { h_bound = d.0; bound = d.1; g_bound = c.args.self.halvable.exponent }
 
 pub returns-then-passes : goal.returns-then-passes
 returns-then-passes c = let in-range : let h = c.wrapping_sub_u64-h.result in (0 < h) × (h < 2 ^ 53) = let t = (and-eq-true_iff _ _).0 c.if-h.true in (ltb-true _ _ t.0, ltb-true _ _ t.1) in
-    c.from_units.ensures ∙ tested c.args.n c.args.g _ c.requires (omega (arith, in-range.0)) (sym c.is_half-passes.ensures ∙ c.if-passes.true)
+    c.from_units.ensures ∙ tested c.args.self.n c.args.self.exponent _ c.args.self.halvable (omega (arith, in-range.0)) (sym c.is_half-passes.ensures ∙ c.if-passes.true)
