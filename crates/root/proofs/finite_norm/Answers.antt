@@ -8,22 +8,11 @@ use Rattle.root.specs.NormMethod.{scaled_sum}
 use Rattle.root.proofs.Laws.NormMethod.{exponents_ordered, far, near, longer_le, longer_range}
 use Rattle.root.proofs.finite_norm.Goals as goal
 
-pub overflow_sub-k : goal.overflow_sub-k
-overflow_sub-k c = exponents_ordered _ _ _ _ _ _ c.integer_decode-a.ensures c.integer_decode-b.ensures c.requires.y_le_x c.requires.x_bound
-
 pub float_from_bits-result : goal.float_from_bits-result
 float_from_bits-result c = pattern_real _ (le_of_lt c.requires.x_bound)
 
 pub returns-then-k-ge-FAR : goal.returns-then-k-ge-FAR
 returns-then-k-ge-FAR c = far _ _ _ _ _ _ c.integer_decode-a.ensures c.integer_decode-b.ensures c.requires.y_le_x c.requires.x_bound c.if-k-ge-FAR.true
-
-pub quotient-requires : goal.quotient-requires
-quotient-requires c = let longer-one : c.scaled_sum-n.result.hi / 2 ^ 54 ≤ 1 = longer_le _ _ _ _ _ _ c.integer_decode-a.ensures c.integer_decode-b.ensures c.requires.y_le_x c.requires.x_bound _ _ c.scaled_sum-n.ensures.value c.scaled_sum-n.result.low in
-    omega (arith, longer-one)
-
-pub overflow_add-radicand : goal.overflow_add-radicand
-overflow_add-radicand c = let longer-one : c.scaled_sum-n.result.hi / 2 ^ 54 ≤ 1 = longer_le _ _ _ _ _ _ c.integer_decode-a.ensures c.integer_decode-b.ensures c.requires.y_le_x c.requires.x_bound _ _ c.scaled_sum-n.ensures.value c.scaled_sum-n.result.low in
-    omega (arith, longer-one, decoded_exponent _ _ _ c.integer_decode-a.ensures c.requires.x_bound)
 
 pub invariant_of-radicand : goal.invariant_of-radicand
 invariant_of-radicand c = let longer-one : c.scaled_sum-n.result.hi / 2 ^ 54 ≤ 1 = longer_le _ _ _ _ _ _ c.integer_decode-a.ensures c.integer_decode-b.ensures c.requires.y_le_x c.requires.x_bound _ _ c.scaled_sum-n.ensures.value c.scaled_sum-n.result.low in

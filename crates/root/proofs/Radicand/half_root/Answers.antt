@@ -4,15 +4,6 @@ use mathlib.Core.Bool.{and-eq-true_iff}
 use Rattle.root.proofs.Laws.HalfRoot.{tested_digits, tested}
 use Rattle.root.proofs.Radicand.half_root.Goals as goal
 
-pub is_half-passes-requires : goal.is_half-passes-requires
-is_half-passes-requires c = let in-range : let h = c.wrapping_sub_u64-h.result in (0 < h) × (h < 2 ^ 53) = let t = (and-eq-true_iff _ _).0 c.if-h.true in (ltb-true _ _ t.0, ltb-true _ _ t.1) in
-    let r = in-range in record { h_nonzero = r.0; h_bound = r.1 }
-
-pub from_units-requires : goal.from_units-requires
-from_units-requires c = let in-range : let h = c.wrapping_sub_u64-h.result in (0 < h) × (h < 2 ^ 53) = let t = (and-eq-true_iff _ _).0 c.if-h.true in (ltb-true _ _ t.0, ltb-true _ _ t.1) in
-    let d = tested_digits c.args.self.n c.args.self.exponent _ c.args.self.halvable (omega (arith, in-range.0)) (sym c.is_half-passes.ensures ∙ c.if-passes.true) in
-    record { h_bound = d.0; bound = d.1; g_bound = c.args.self.halvable.exponent }
-
 pub returns-then-passes : goal.returns-then-passes
 returns-then-passes c = let in-range : let h = c.wrapping_sub_u64-h.result in (0 < h) × (h < 2 ^ 53) = let t = (and-eq-true_iff _ _).0 c.if-h.true in (ltb-true _ _ t.0, ltb-true _ _ t.1) in
     c.from_units.ensures ∙ tested c.args.self.n c.args.self.exponent _ c.args.self.halvable (omega (arith, in-range.0)) (sym c.is_half-passes.ensures ∙ c.if-passes.true)

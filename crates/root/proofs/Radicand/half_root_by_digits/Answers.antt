@@ -4,9 +4,6 @@ use lib.Ieee.{binary64, units}
 use Rattle.root.proofs.Laws.HalfRoot.{first_few, half_digits, half_found}
 use Rattle.root.proofs.Radicand.half_root_by_digits.Goals as goal
 
-pub digits-found-requires : goal.digits-found-requires
-digits-found-requires c = record { d_bound = c.args.self.n.low; q_bound = first_few c.args.self.n.hi c.args.self.n.lo c.args.self.halvable.upper c.args.self.n.low _ _ c.digits-first.ensures.root_rest; r_bound = c.digits-first.ensures.root_rest.rest }
-
 pub from_units-requires : goal.from_units-requires
 from_units-requires c = let S = half_digits c.args.self.n.hi c.args.self.n.lo c.args.self.halvable.upper c.args.self.n.low _ _ c.digits-first.ensures.root_rest _ _ c.digits-found.ensures.root_rest c.args.self.exponent c.args.self.halvable.full c.digits-found.ensures.root_bound c.args.self.n.cut in
     rw c.nearest_half.ensures record { h_bound = S.0; bound = S.1; g_bound = c.args.self.halvable.exponent }
