@@ -83,57 +83,65 @@ fn from_units(h: u64, g: u64) -> f64
     }
 }
 
-// Whether n lies between the squares of 2 * h - 1 and 2 * h + 1 and is neither. Then half of its root is rounded to h.
-fn is_half(n: Wide, h: u64) -> bool
-    requires h_nonzero { 0 < h }
-    requires h_bound { h < 2 ^ 53 }
-    ensures { result ≡ (nat_lt ((2 * h - 1) * (2 * h - 1)) (whole n) && nat_lt (whole n) ((2 * h + 1) * (2 * h + 1))) }
-{
-    Wide::square(2 * h - 1).is_less(n) & n.is_less(Wide::square(2 * h + 1))
+// A number n whose root has 54 digits, unless the exponent is 0: half of it times 2^exponent units is a value or past the
+// largest.
+#[derive(Clone, Copy)]
+struct Radicand {
+    n: Wide,
+    exponent: u64,
+    ghost halvable: { Halvable n exponent },
 }
 
-// Half of the root of n, rounded to the nearest, times 2^g units, by its digits.
-fn half_root_by_digits(n: Wide, g: u64) -> f64
-    requires { Halvable n g }
-    ensures { result ≡ half_root (whole n) n.cut g }
-{
-    let first = digits(n.hi, 0, 0);
-    let found = digits(n.lo, first.root, first.rest);
-    from_units(nearest_half(found, n.cut), g)
-}
+impl Radicand {
+    // Whether n lies between the squares of 2 * h - 1 and 2 * h + 1 and is neither. Then half of its root is rounded to h.
+    fn is_half(self, h: u64) -> bool
+        requires h_nonzero { 0 < h }
+        requires h_bound { h < 2 ^ 53 }
+        ensures { result ≡ (nat_lt ((2 * h - 1) * (2 * h - 1)) (whole self.n) && nat_lt (whole self.n) ((2 * h + 1) * (2 * h + 1))) }
+    {
+        Wide::square(2 * h - 1).is_less(self.n) & self.n.is_less(Wide::square(2 * h + 1))
+    }
 
-// The same, where h + 1 or h - 1 is likely to be the half. They are tested, so h may be any number.
-fn half_root_beside(n: Wide, g: u64, h: u64) -> f64
-    requires { Halvable n g }
-    ensures { result ≡ half_root (whole n) n.cut g }
-{
-    if (1 < h) & (h < 0x1f_ffff_ffff_ffff) {
-        if is_half(n, h + 1) {
-            return from_units(h + 1, g);
-        }
-        if is_half(n, h - 1) {
-            return from_units(h - 1, g);
-        }
+    // Half of the root of n, rounded to the nearest, times 2^exponent units, by its digits.
+    fn half_root_by_digits(self) -> f64
+        ensures { result ≡ half_root (whole self.n) self.n.cut self.exponent }
+    {
+        let first = digits(self.n.hi, 0, 0);
+        let found = digits(self.n.lo, first.root, first.rest);
+        from_units(nearest_half(found, self.n.cut), self.exponent)
     }
-    half_root_by_digits(n, g)
-}
 
-// The same, where the answer is likely to be `guess`, which may be anything: its half is tested.
-fn half_root(n: Wide, g: u64, guess: f64) -> f64
-    requires { Halvable n g }
-    ensures { result ≡ half_root (whole n) n.cut g }
-{
-    if guess.is_nan() {
-        return half_root_beside(n, g, 0);
-    }
-    let h = wrapping_sub_u64(f64::to_bits(guess), g * 0x10_0000_0000_0000);
-    if (0 < h) & (h < 0x20_0000_0000_0000) {
-        let passes = is_half(n, h);
-        if passes {
-            return from_units(h, g);
+    // The same, where h + 1 or h - 1 is likely to be the half. They are tested, so h may be any number.
+    fn half_root_beside(self, h: u64) -> f64
+        ensures { result ≡ half_root (whole self.n) self.n.cut self.exponent }
+    {
+        if (1 < h) & (h < 0x1f_ffff_ffff_ffff) {
+            if self.is_half(h + 1) {
+                return from_units(h + 1, self.exponent);
+            }
+            if self.is_half(h - 1) {
+                return from_units(h - 1, self.exponent);
+            }
         }
+        self.half_root_by_digits()
     }
-    half_root_beside(n, g, h)
+
+    // The same, where the answer is likely to be `guess`, which may be anything: its half is tested.
+    fn half_root(self, guess: f64) -> f64
+        ensures { result ≡ half_root (whole self.n) self.n.cut self.exponent }
+    {
+        if guess.is_nan() {
+            return self.half_root_beside(0);
+        }
+        let h = wrapping_sub_u64(f64::to_bits(guess), self.exponent * 0x10_0000_0000_0000);
+        if (0 < h) & (h < 0x20_0000_0000_0000) {
+            let passes = self.is_half(h);
+            if passes {
+                return from_units(h, self.exponent);
+            }
+        }
+        self.half_root_beside(h)
+    }
 }
 
 // ---- bit patterns
@@ -279,7 +287,11 @@ fn positive(b: u64, guess: f64) -> f64
         lo: 0,
         cut: false,
     };
-    half_root(n, e / 2 - 27, guess)
+    let radicand = Radicand {
+        n,
+        exponent: e / 2 - 27,
+    };
+    radicand.half_root(guess)
 }
 
 // The root of x, whatever the guess at it. A zero is its own root, with its sign; of anything else below zero, and of a NaN,
@@ -347,7 +359,11 @@ fn finite_norm(x: u64, y: u64, guess: f64) -> f64
     }
     let n = scaled_sum(a.significand, b.significand, k);
     let longer = n.hi >> 54;
-    half_root(n.quotient(longer), a.exponent + longer, guess)
+    let radicand = Radicand {
+        n: n.quotient(longer),
+        exponent: a.exponent + longer,
+    };
+    radicand.half_root(guess)
 }
 
 // The size of a complex number, whatever the guess at it: the f64 nearest to the exact root of the sum of its parts'

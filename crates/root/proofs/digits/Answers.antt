@@ -7,18 +7,6 @@ use Rattle.root.proofs.digits.Goals.{then-t-c, else-t-c}
 pub loop-init : goal.loop-init
 loop-init c = let a = c.args in (omega arith, before_turns (a.d * 2 ^ 10 % 2 ^ 64) a.q a.r (omega arith) c.requires.q_bound c.requires.r_bound)
 
-pub overflow_mul-t : goal.overflow_mul-t
-overflow_mul-t c = let i = c.loop.invariant in omega (arith, root_lt i.1 i.0, i.1.found.rest)
-
-pub overflow_add-t : goal.overflow_add-t
-overflow_add-t c = let i = c.loop.invariant in omega (arith, root_lt i.1 i.0, i.1.found.rest, i.1.word)
-
-pub overflow_mul-c : goal.overflow_mul-c
-overflow_mul-c c = let i = c.loop.invariant in omega (arith, root_lt i.1 i.0)
-
-pub overflow_add-c : goal.overflow_add-c
-overflow_add-c c = let i = c.loop.invariant in omega (arith, root_lt i.1 i.0)
-
 -- the digit that a turn finds
 digit : (c : goal.Joined-t-c) → let l = c.loop in Digit (4 * l.r + l.s / 2 ^ 62) (4 * l.q + 1) c.if-t-c.b
 digit c = elim c.if-t-c.branch [ then-t-c w ↦ inl (w.if-t-c.true, w.b-is) | else-t-c w ↦ inr (w.if-t-c.false, w.b-is) ]

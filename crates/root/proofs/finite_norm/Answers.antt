@@ -8,30 +8,19 @@ use Rattle.root.specs.NormMethod.{scaled_sum}
 use Rattle.root.proofs.Laws.NormMethod.{exponents_ordered, far, near, longer_le, longer_range}
 use Rattle.root.proofs.finite_norm.Goals as goal
 
-pub overflow_sub-k : goal.overflow_sub-k
-overflow_sub-k c = exponents_ordered _ _ _ _ _ _ c.integer_decode-a.ensures c.integer_decode-b.ensures c.requires.y_le_x c.requires.x_bound
-
 pub float_from_bits-result : goal.float_from_bits-result
 float_from_bits-result c = pattern_real _ (le_of_lt c.requires.x_bound)
 
 pub returns-then-k-ge-FAR : goal.returns-then-k-ge-FAR
 returns-then-k-ge-FAR c = far _ _ _ _ _ _ c.integer_decode-a.ensures c.integer_decode-b.ensures c.requires.y_le_x c.requires.x_bound c.if-k-ge-FAR.true
 
-pub quotient-requires : goal.quotient-requires
-quotient-requires c = let longer-one : c.scaled_sum-n.result.hi / 2 ^ 54 ≤ 1 = longer_le _ _ _ _ _ _ c.integer_decode-a.ensures c.integer_decode-b.ensures c.requires.y_le_x c.requires.x_bound _ _ c.scaled_sum-n.ensures.value c.scaled_sum-n.result.low in
-    omega (arith, longer-one)
-
-pub overflow_add-a : goal.overflow_add-a
-overflow_add-a c = let longer-one : c.scaled_sum-n.result.hi / 2 ^ 54 ≤ 1 = longer_le _ _ _ _ _ _ c.integer_decode-a.ensures c.integer_decode-b.ensures c.requires.y_le_x c.requires.x_bound _ _ c.scaled_sum-n.ensures.value c.scaled_sum-n.result.low in
-    omega (arith, longer-one, decoded_exponent _ _ _ c.integer_decode-a.ensures c.requires.x_bound)
-
-pub half_root-requires : goal.half_root-requires
-half_root-requires c = let longer-one : c.scaled_sum-n.result.hi / 2 ^ 54 ≤ 1 = longer_le _ _ _ _ _ _ c.integer_decode-a.ensures c.integer_decode-b.ensures c.requires.y_le_x c.requires.x_bound _ _ c.scaled_sum-n.ensures.value c.scaled_sum-n.result.low in
+pub invariant_of-radicand : goal.invariant_of-radicand
+invariant_of-radicand c = let longer-one : c.scaled_sum-n.result.hi / 2 ^ 54 ≤ 1 = longer_le _ _ _ _ _ _ c.integer_decode-a.ensures c.integer_decode-b.ensures c.requires.y_le_x c.requires.x_bound _ _ c.scaled_sum-n.ensures.value c.scaled_sum-n.result.low in
     let in-range : let a = c.integer_decode-a.result in let b = c.integer_decode-b.result in let N = scaled_sum a.significand b.significand (a.exponent - b.exponent) in let j = c.scaled_sum-n.result.hi / 2 ^ 54 in (N / 4 ^ j < 2 ^ 108) × (0 < a.exponent + j → 2 ^ 106 ≤ N / 4 ^ j) = longer_range _ _ _ _ _ _ c.integer_decode-a.ensures c.integer_decode-b.ensures c.requires.y_le_x c.requires.x_bound _ _ c.scaled_sum-n.ensures.value c.scaled_sum-n.result.low in
     let Q = c.quotient.ensures in
     let r = in-range in
     let q = Q.value ∙ ap (λ (x : ℕ). x / 4 ^ (c.scaled_sum-n.result.hi / 2 ^ 54)) c.scaled_sum-n.ensures.value in
-    record { upper = upper_lt _ _ _ q r.0; full = λ p. upper_ge _ _ _ q c.quotient.result.low (r.1 p); exponent = omega (arith, longer-one, decoded_exponent _ _ _ c.integer_decode-a.ensures c.requires.x_bound) }
+    record { halvable = record { upper = upper_lt _ _ _ q r.0; full = λ p. upper_ge _ _ _ q c.quotient.result.low (r.1 p); exponent = omega (arith, longer-one, decoded_exponent _ _ _ c.integer_decode-a.ensures c.requires.x_bound) } }
 
 pub returns : goal.returns
 returns c = let in-range : let a = c.integer_decode-a.result in let b = c.integer_decode-b.result in let N = scaled_sum a.significand b.significand (a.exponent - b.exponent) in let j = c.scaled_sum-n.result.hi / 2 ^ 54 in (N / 4 ^ j < 2 ^ 108) × (0 < a.exponent + j → 2 ^ 106 ≤ N / 4 ^ j) = longer_range _ _ _ _ _ _ c.integer_decode-a.ensures c.integer_decode-b.ensures c.requires.y_le_x c.requires.x_bound _ _ c.scaled_sum-n.ensures.value c.scaled_sum-n.result.low in

@@ -19,12 +19,6 @@ returns-then-x-top c = top_value ∙ size_infinite c.args.a _ _ c.magnitude-x.en
 pub returns-then-x-top-2 : goal.returns-then-x-top-2
 returns-then-x-top-2 c = nan_value ∙ size_nan c.args.a _ _ c.magnitude-x.ensures.value c.magnitude-y.ensures.value c.magnitude-x.ensures.t c.magnitude-y.ensures.t c.if-x-top.false c.if-x-top-2.true
 
-pub finite_norm-requires : goal.finite_norm-requires
-finite_norm-requires c = let finite : let b = c.magnitude-x.result in let d = c.magnitude-y.result in ((b < top) × (d < top)) × (nearest_root (sum_of_squares (of_bits binary64 b) (of_bits binary64 d)) ≡ norm_of c.args.a) = (patterns_below c.args.a _ _ c.magnitude-x.ensures.value c.magnitude-y.ensures.value c.magnitude-x.ensures.t c.magnitude-y.ensures.t c.if-x-top.false c.if-x-top-2.false, size_finite c.args.a _ _ c.magnitude-x.ensures.value c.magnitude-y.ensures.value c.magnitude-x.ensures.t c.magnitude-y.ensures.t c.if-x-top.false c.if-x-top-2.false) in
-    let h = finite.0 in
-    let r = in_order _ _ h.0 h.1 in
-    rw (c.max.ensures, c.min.ensures) record { y_le_x = r.0; x_bound = r.1 }
-
 pub returns-else-x-top-2 : goal.returns-else-x-top-2
 returns-else-x-top-2 c = let finite : let b = c.magnitude-x.result in let d = c.magnitude-y.result in ((b < top) × (d < top)) × (nearest_root (sum_of_squares (of_bits binary64 b) (of_bits binary64 d)) ≡ norm_of c.args.a) = (patterns_below c.args.a _ _ c.magnitude-x.ensures.value c.magnitude-y.ensures.value c.magnitude-x.ensures.t c.magnitude-y.ensures.t c.if-x-top.false c.if-x-top-2.false, size_finite c.args.a _ _ c.magnitude-x.ensures.value c.magnitude-y.ensures.value c.magnitude-x.ensures.t c.magnitude-y.ensures.t c.if-x-top.false c.if-x-top-2.false) in
     c.finite_norm.ensures ∙ ap nearest_root (rw (c.max.ensures, c.min.ensures) (either_order _ _)) ∙ finite.1

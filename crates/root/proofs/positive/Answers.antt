@@ -3,28 +3,13 @@ use Rattle.std.proofs.Common.{◌∙◌, arith, lit<}
 use Rattle.root.proofs.Laws.RootMethod.{zeros_range, exponents, hi_range, root_found}
 use Rattle.root.proofs.positive.Goals as goal
 
-pub overflow_cast-z : goal.overflow_cast-z
-overflow_cast-z c = let h = c.requires in omega (arith, (zeros_range _ _ _ c.integer_decode-d.ensures h.b_bound h.b_nonzero).1)
-
 pub overflow_sub-z : goal.overflow_sub-z
 overflow_sub-z c = let h = c.requires in (zeros_range _ _ _ c.integer_decode-d.ensures h.b_bound h.b_nonzero).0
 
-pub overflow_sub-e : goal.overflow_sub-e
-overflow_sub-e c = let h = c.requires in (exponents _ _ _ c.integer_decode-d.ensures h.b_bound h.b_nonzero).0
-
-pub overflow_add-n : goal.overflow_add-n
-overflow_add-n c = let h = c.requires in omega (arith, (zeros_range _ _ _ c.integer_decode-d.ensures h.b_bound h.b_nonzero).1)
-
-pub overflow_shl-n : goal.overflow_shl-n
-overflow_shl-n c = let h = c.requires in omega (arith, (zeros_range _ _ _ c.integer_decode-d.ensures h.b_bound h.b_nonzero).1)
-
-pub overflow_sub-e-2 : goal.overflow_sub-e-2
-overflow_sub-e-2 c = let h = c.requires in omega (arith, (exponents _ _ _ c.integer_decode-d.ensures h.b_bound h.b_nonzero).1)
-
-pub half_root-requires : goal.half_root-requires
-half_root-requires c = let h = c.requires in
+pub invariant_of-radicand : goal.invariant_of-radicand
+invariant_of-radicand c = let h = c.requires in
     let w = hi_range _ _ _ c.integer_decode-d.ensures h.b_bound h.b_nonzero in
-    record { upper = w.1; full = λ _. w.0; exponent = omega (arith, (exponents _ _ _ c.integer_decode-d.ensures h.b_bound h.b_nonzero).2) }
+    record { halvable = record { upper = w.1; full = λ _. w.0; exponent = omega (arith, (exponents _ _ _ c.integer_decode-d.ensures h.b_bound h.b_nonzero).2) } }
 
 pub returns : goal.returns
 returns c = let h = c.requires in c.half_root.ensures ∙ root_found _ _ _ c.integer_decode-d.ensures h.b_bound h.b_nonzero

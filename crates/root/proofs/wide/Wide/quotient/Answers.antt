@@ -4,23 +4,11 @@ use Rattle.root.proofs.Laws.Wide.{divisor_pos, quotient_low, quotient_whole, quo
 use Rattle.root.proofs.wide.Wide.quotient.Goals as goal
 use Rattle.root.proofs.wide.Wide.quotient.Goals.{then-self, else-self}
 
-pub nonzero_div-hi : goal.nonzero_div-hi
-nonzero_div-hi c = divisor_pos c.args.k c.requires
-
-pub nonzero_rem-lo : goal.nonzero_rem-lo
-nonzero_rem-lo c = divisor_pos c.args.k c.requires
-
 pub overflow_mul-lo : goal.overflow_mul-lo
 overflow_mul-lo c = omega (arith, quotient_low c.args.k c.requires c.args.self)
 
-pub nonzero_div-lo : goal.nonzero_div-lo
-nonzero_div-lo c = divisor_pos c.args.k c.requires
-
 pub overflow_add-lo : goal.overflow_add-lo
 overflow_add-lo c = omega (arith, quotient_low c.args.k c.requires c.args.self)
-
-pub nonzero_rem-cut : goal.nonzero_rem-cut
-nonzero_rem-cut c = divisor_pos c.args.k c.requires
 
 pub invariant_of-result : goal.invariant_of-result
 invariant_of-result c = record { low = quotient_low c.args.k c.requires c.args.self }
