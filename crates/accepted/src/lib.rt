@@ -6,7 +6,6 @@ ghost use Rattle.std.specs.Prelude.{◌≡◌, Ok};
 ghost use Rattle.model.specs.Slots.{held};
 ghost use Rattle.model.specs.Calls.{after, walked, gate_refusal, gate_call, project_refusal, project_call, measure_refusal, measure_call, reset_refusal, reset_call, env_refusal, left_environment_call, right_environment_call};
 
-use columns::fill_zero;
 use complex::Complex;
 use environments::{compute_left_env, compute_right_env, write_environment};
 use model::{Applied, Chain, Projected};
@@ -30,7 +29,7 @@ pub fn run_gate(
 {
     let room = work_room(chain.max_bond_dim);
     let out = apply_two_qubit_gate(chain, store, &mut work[..room], gate, q0, q1);
-    fill_zero(&mut work[..room]);
+    work[..room].fill(0.0);
     out
 }
 
@@ -50,7 +49,7 @@ pub fn run_project(
     let room = work_room(chain.max_bond_dim);
     let site = usize::from(chain.logical_to_site[q]);
     let out = project_z_outcome(chain, store, &mut work[..room], site, bit);
-    fill_zero(&mut work[..room]);
+    work[..room].fill(0.0);
     out
 }
 
@@ -69,7 +68,7 @@ pub fn run_measure(
     let room = work_room(chain.max_bond_dim);
     let site = usize::from(chain.logical_to_site[q]);
     let seen = apply_measure(chain, store, &mut work[..room], site, flag, draw);
-    fill_zero(&mut work[..room]);
+    work[..room].fill(0.0);
     seen
 }
 
@@ -81,7 +80,7 @@ pub fn run_reset(chain: &mut Chain, store: &mut [f64], work: &mut [f64], q: usiz
     let room = work_room(chain.max_bond_dim);
     let site = usize::from(chain.logical_to_site[q]);
     apply_reset(chain, store, &mut work[..room], site, draw);
-    fill_zero(&mut work[..room]);
+    work[..room].fill(0.0);
 }
 
 // ---- environments: the record and the store are only read
@@ -101,7 +100,7 @@ pub fn run_left_environment(
     let room = work_room(chain.max_bond_dim);
     let left_dim = compute_left_env(chain, store, &mut work[..room], from, site);
     write_environment(out, work, left_dim);
-    fill_zero(&mut work[..room]);
+    work[..room].fill(0.0);
     left_dim
 }
 
@@ -120,6 +119,6 @@ pub fn run_right_environment(
     let room = work_room(chain.max_bond_dim);
     let right_dim = compute_right_env(chain, store, &mut work[..room], site, to);
     write_environment(out, work, right_dim);
-    fill_zero(&mut work[..room]);
+    work[..room].fill(0.0);
     right_dim
 }

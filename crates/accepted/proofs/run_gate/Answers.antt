@@ -28,6 +28,6 @@ returns c =
     let g = gate_accepted s a.work.now a.q0 a.q1 a.gate (eq-eqb _ 0 c.requires) in
     let part = lent s a.work.now g.sound g.long c.work_room-room.result c.work_room-room.ensures in
     let r = c.apply_two_qubit_gate-out in
-    let z = c.fill_zero in
-    let left = part.clear r.new.work z.new.s r.auto.work z.ensures in
+    let z = c.fill in
+    let left = part.clear r.new.work z.new.self r.auto.work (z.ensures.after (λ y e. e)) in
     gate_ends _ _ _ _ _ _ _ _ c.requires r.ensures left

@@ -37,7 +37,7 @@ returns c =
     let r = c.compute_left_env-left_dim in
     let square = left_env_squared s g.sound a.from a.site g.end_below g.site_within in
     let most : r.result ≤ a.chain.now.max_bond_dim = omega (arith, square.most, r.ensures.value) in
-    let z = c.fill_zero in
-    let left = part.clear r.new.work z.new.s r.auto.work z.ensures in
+    let z = c.fill in
+    let left = part.clear r.new.work z.new.self r.auto.work (z.ensures.after (λ y e. e)) in
     let result = written_entries g part r.result most r.new.work r.auto.work _ c.write_environment.ensures in
     walk_ends s _ _ a.from a.site (left_env a.from a.site s) _ _ _ _ c.requires r.ensures.value r.ensures.work_after left result

@@ -36,6 +36,6 @@ returns c =
     let g = project_passes s a.work.now a.q (eq-eqb _ 0 c.requires) in
     let part = lent s a.work.now g.sound g.long c.work_room-room.result c.work_room-room.ensures in
     let r = c.project_z_outcome-out in
-    let z = c.fill_zero in
-    let left = part.clear r.new.work z.new.s r.auto.work z.ensures in
+    let z = c.fill in
+    let left = part.clear r.new.work z.new.self r.auto.work (z.ensures.after (λ y e. e)) in
     project_ends _ _ _ _ _ _ _ _ c.requires c.from-site.ensures r.ensures.answer_value r.ensures.store_after left

@@ -37,6 +37,6 @@ returns c =
     let g = reset_passes s a.work.now a.q a.draw (eq-eqb _ 0 c.requires) in
     let part = lent s a.work.now g.sound g.long c.work_room-room.result c.work_room-room.ensures in
     let r = c.apply_reset in
-    let z = c.fill_zero in
-    let left = part.clear r.new.work z.new.s r.auto.work z.ensures in
+    let z = c.fill in
+    let left = part.clear r.new.work z.new.self r.auto.work (z.ensures.after (λ y e. e)) in
     reset_ends _ _ _ _ _ _ _ _ c.requires c.from-site.ensures refl r.ensures left

@@ -37,7 +37,7 @@ returns c =
     let r = c.compute_right_env-right_dim in
     let square = right_env_squared s g.sound a.site a.to g.end_below in
     let most : r.result ≤ a.chain.now.max_bond_dim = omega (arith, square.most, r.ensures.value) in
-    let z = c.fill_zero in
-    let left = part.clear r.new.work z.new.s r.auto.work z.ensures in
+    let z = c.fill in
+    let left = part.clear r.new.work z.new.self r.auto.work (z.ensures.after (λ y e. e)) in
     let result = written_entries g part r.result most r.new.work r.auto.work _ c.write_environment.ensures in
     walk_ends s _ _ a.to a.site (right_env a.site a.to s) _ _ _ _ c.requires r.ensures.value r.ensures.work_after left result
