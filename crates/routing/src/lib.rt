@@ -74,8 +74,10 @@ fn route_gate(
     requires near_lt_far { (near < far) × (far < chain.old.num_qubits) }
     ensures { let s = held chain.old store.old in answered result (held chain.new store.new) ≡ answered_by (routed_reason gate near (far - (near + 1)) s) (routed_gate gate near (far - (near + 1)) s) }
 {
-    route_swaps(chain, store, work, near, far)?;
-    apply_adjacent_two_qubit(chain, store, work, gate, near)
+    match route_swaps(chain, store, work, near, far) {
+        Ok(()) => apply_adjacent_two_qubit(chain, store, work, gate, near),
+        Err(number) => Err(number),
+    }
 }
 
 // ---- the gate between its qubits

@@ -1,9 +1,9 @@
-use mathlib.Core.Path.{refl, sym, ap, ◌∙◌}
+use mathlib.Core.Path.{refl, sym, ◌∙◌}
 use native.Mathlib.Omega.{arith}
 use Rattle.std.proofs.lemmas.Result.{err_from_is_err_and}
 use Rattle.cuts.specs.Attempts.{ready_keeps}
 use Rattle.routing.specs.Kept.{step_keeps}
-use Rattle.routing.specs.Runs.{passed_by, passed_refused, passed_on, refused_passed, on_passed, swaps_on, swaps_out, swaps_done}
+use Rattle.routing.specs.Runs.{passed_refused, passed_on, refused_passed, on_passed, swaps_on, swaps_out, swaps_done}
 use Rattle.routing.proofs.route_swaps.Goals as goal
 
 pub loop-at-preserved : goal.loop-at-preserved
