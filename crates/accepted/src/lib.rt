@@ -1,5 +1,6 @@
 // What a call does that is not refused: its run at the front of the work slice, which is +0 afterwards. Reached through
-// `chain` alone.
+// `chain` alone. Each function lends that front and clears it itself: one for all, over a closure that makes the run, was
+// tried, and the proof didn't close, since a caller learns nothing of what the closure changes in `chain` and `store`.
 #![tactic(auto)]
 
 ghost use Rattle.std.specs.Prelude.{◌≡◌, Ok};

@@ -8,57 +8,37 @@ ghost use Rattle.std.specs.Io.KnownBytes.{Appends};
 use chain::{apply_named_gate, measure, start};
 use gates::NamedGate;
 use lines::{Detail, Line, write_line};
-use model::{Answer, Applied, Chain, Measured};
+use model::Chain;
 use record::read_record;
 use std::io;
 use std::io::Write;
 
-fn of_answer(a: Answer) -> u8 {
-    match a {
-        Answer::Done => 0,
-        Answer::Refused(k) => k,
-    }
-}
-
-fn of_applied(a: Applied) -> u8 {
-    match a {
-        Applied::Done(_) => 0,
-        Applied::Refused(k) => k,
-    }
-}
-
-fn of_measured(a: Measured) -> u8 {
-    match a {
-        Measured::Bit(b) => 0,
-        Measured::Refused(k) => k,
+// The number that an answer refuses under, 0 where it is of an accepted call.
+fn number<T: Copy>(answer: Result<T, u8>) -> u8 {
+    match answer {
+        Ok(_) => 0,
+        Err(k) => k,
     }
 }
 
 // Two qubits under the cap 2.
 fn two_qubits(store: &mut [f64], exponent: u8) -> Chain {
-    let s = start(2, 2, 0.0, 0.0, exponent, store);
-    s.chain
+    start(2, 2, 0.0, 0.0, exponent, store).chain
 }
 
 fn cx(chain: Chain, store: &mut [f64], work: &mut [f64], q0: usize, q1: usize) -> u8 {
-    let r = apply_named_gate(chain, store, work, q0, q1, NamedGate::Cx);
-    let a = r.answer;
-    of_applied(a)
+    number(apply_named_gate(chain, store, work, q0, q1, NamedGate::Cx).answer)
 }
 
 // 1: a cap of 0.
 fn setting_out_of_range(store: &mut [f64]) -> u8 {
-    let s = start(2, 0, 0.0, 0.0, 5, store);
-    let a = s.answer;
-    of_answer(a)
+    number(start(2, 0, 0.0, 0.0, 5, store).answer)
 }
 
 // 2: two qubits under the cap 1, in a store of 7 numbers.
 fn short_store() -> u8 {
     let mut store = [0.0; 7];
-    let s = start(2, 1, 0.0, 0.0, 5, &mut store);
-    let a = s.answer;
-    of_answer(a)
+    number(start(2, 1, 0.0, 0.0, 5, &mut store).answer)
 }
 
 // 3: both qubits at site 0.
@@ -77,9 +57,7 @@ fn doubled_qubit(store: &mut [f64], work: &mut [f64]) -> u8 {
 // 5: a draw of 1.
 fn draw_of_one(store: &mut [f64], work: &mut [f64]) -> u8 {
     let chain = two_qubits(store, 5);
-    let r = measure(chain, store, work, 0, 0, 1.0);
-    let a = r.answer;
-    of_measured(a)
+    number(measure(chain, store, work, 0, 0, 1.0).answer)
 }
 
 // 6: exponent 4 under bonds of 1, 1 and 1, which need 22 numbers.

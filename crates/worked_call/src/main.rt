@@ -12,44 +12,29 @@ use std::io::Write;
 
 // A Hadamard gate on the first of two qubits, the second left alone.
 fn hadamard_first() -> [[Complex; 4]; 4] {
-    let z = Complex { re: 0.0, im: 0.0 };
-    let h = Complex {
-        re: 0.7071067811865476,
-        im: 0.0,
-    };
-    let m = Complex {
-        re: -0.7071067811865476,
-        im: 0.0,
-    };
+    let z = Complex::ZERO;
+    let h = Complex::from(0.7071067811865476);
+    let m = Complex::from(-0.7071067811865476);
     [[h, z, h, z], [z, h, z, h], [h, z, m, z], [z, h, z, m]]
 }
 
 // The Bell pair, from a fresh chain of two qubits under the cap 2.
 fn bell_pair(store: &mut [f64], work: &mut [f64]) -> Gated {
     let fresh = start(2, 2, 1e-12, 1e-30, 20, store);
-    let chain = fresh.chain;
-    let gate = hadamard_first();
-    let turned = apply_gate(chain, store, work, 0, 1, gate);
-    let chain = turned.chain;
-    apply_named_gate(chain, store, work, 0, 1, NamedGate::Cx)
-}
-
-// A word.
-fn say<W: Write>(writer: &mut W, word: &[u8]) -> io::Result<()> {
-    writer.write_all(word)
+    let turned = apply_gate(fresh.chain, store, work, 0, 1, hadamard_first());
+    apply_named_gate(turned.chain, store, work, 0, 1, NamedGate::Cx)
 }
 
 // Why the bond that a gate left is as wide as it is.
 fn show_reason<W: Write>(writer: &mut W, answer: Applied) -> io::Result<()> {
-    match answer {
-        Applied::Done(reason) => match reason {
-            Reason::Floor => say(writer, b"Floor\n"),
-            Reason::Cap => say(writer, b"Cap\n"),
-            Reason::Tolerance => say(writer, b"Tolerance\n"),
-            Reason::Full => say(writer, b"Full\n"),
-        },
-        Applied::Refused(_) => say(writer, b"refused\n"),
-    }
+    let word: &[u8] = match answer {
+        Ok(Reason::Floor) => b"Floor\n",
+        Ok(Reason::Cap) => b"Cap\n",
+        Ok(Reason::Tolerance) => b"Tolerance\n",
+        Ok(Reason::Full) => b"Full\n",
+        Err(_) => b"refused\n",
+    };
+    writer.write_all(word)
 }
 
 // The first n bytes, where there are so many.
@@ -90,10 +75,7 @@ fn main(rt: HostRuntime) -> io::Result<()> {
     let mut store = [0.0; 32];
     let mut work = [0.0; 352];
     let bell = bell_pair(&mut store, &mut work);
-    let answer = bell.answer;
-    show_reason(&mut writer, answer)?;
-    let chain = bell.chain;
-    let seen = project(chain, &mut store, &mut work, 1, true);
-    let outcome = seen.answer;
-    show(&mut writer, outcome)
+    show_reason(&mut writer, bell.answer)?;
+    let seen = project(bell.chain, &mut store, &mut work, 1, true);
+    show(&mut writer, seen.answer)
 }
