@@ -22,6 +22,12 @@ use complex::Complex;
 use std::num::wrapping_sub_u64;
 use wide::Wide;
 
+// The sign's bit of a bit pattern.
+const SIGN: u64 = 0x8000_0000_0000_0000;
+
+// The infinity's bit pattern. Without the sign's bit, finite values are below it and NaNs above.
+const INFINITY: u64 = 0x7ff0_0000_0000_0000;
+
 // ---- half of a root
 
 // The digits found of a root, and what the number's digits so far are above their square.
@@ -76,8 +82,8 @@ fn from_units(h: u64, g: u64) -> f64
     ensures { result ≡ units binary64 false h g }
 {
     let b = g * 0x10_0000_0000_0000 + h;
-    if b > 0x7ff0_0000_0000_0000 {
-        f64::from_bits(0x7ff0_0000_0000_0000)
+    if b > INFINITY {
+        f64::INFINITY
     } else {
         f64::from_bits(b)
     }
@@ -181,7 +187,7 @@ fn magnitude(x: f64) -> u64
     if x.is_nan() {
         return 0x7ff8_0000_0000_0000;
     }
-    f64::to_bits(x) % 0x8000_0000_0000_0000
+    f64::to_bits(x) % SIGN
 }
 
 // The bit pattern of x; 0 for a NaN.
@@ -240,7 +246,7 @@ fn root_guess(x: f64) -> f64 {
     if x.is_nan() {
         return x;
     }
-    let g = first_guess(f64::to_bits(x) % 0x8000_0000_0000_0000);
+    let g = first_guess(f64::to_bits(x) % SIGN);
     refined(g, x - g * g, 1.0 / x)
 }
 
@@ -266,7 +272,7 @@ fn norm_guess(a: Complex) -> f64 {
     if z.is_nan() {
         return z;
     }
-    let g = first_guess(f64::to_bits(z) % 0x8000_0000_0000_0000);
+    let g = first_guess(f64::to_bits(z) % SIGN);
     refined(g, excess(a, g), 1.0 / z)
 }
 
@@ -306,13 +312,13 @@ pub fn root_with(x: f64, guess: f64) -> f64
     if b == 0 {
         return x;
     }
-    if b == 0x8000_0000_0000_0000 {
+    if b == SIGN {
         return x;
     }
-    if b > 0x8000_0000_0000_0000 {
+    if b > SIGN {
         return f64::NAN;
     }
-    if b >= 0x7ff0_0000_0000_0000 {
+    if b >= INFINITY {
         return x;
     }
     positive(b, guess)
@@ -371,12 +377,11 @@ fn finite_norm(x: u64, y: u64, guess: f64) -> f64
 pub fn norm_with(a: Complex, guess: f64) -> f64
     ensures { result ≡ norm_of a }
 {
-    let top: u64 = 0x7ff0_0000_0000_0000;
     let x = magnitude(a.re);
     let y = magnitude(a.im);
-    if (x == top) | (y == top) {
-        f64::from_bits(top)
-    } else if (x > top) | (y > top) {
+    if (x == INFINITY) | (y == INFINITY) {
+        f64::INFINITY
+    } else if (x > INFINITY) | (y > INFINITY) {
         f64::NAN
     } else {
         finite_norm(x.max(y), x.min(y), guess)
