@@ -19,7 +19,7 @@ ghost use Rattle.root.specs.NormMethod.{scaled_sum, cut_off};
 mod wide;
 
 use complex::Complex;
-use std::num::wrapping_sub_u64;
+use std::num::{f64_to_bits_with_nan, wrapping_sub_u64};
 use wide::Wide;
 
 // The sign's bit of a bit pattern.
@@ -27,6 +27,9 @@ const SIGN: u64 = 0x8000_0000_0000_0000;
 
 // The infinity's bit pattern. Without the sign's bit, finite values are below it and NaNs above.
 const INFINITY: u64 = 0x7ff0_0000_0000_0000;
+
+// The bit pattern of 1.
+const ONE: u64 = 0x3ff0_0000_0000_0000;
 
 // ---- half of a root
 
@@ -133,6 +136,7 @@ impl Radicand {
     }
 
     // The same, where the answer is likely to be `guess`, which may be anything: its half is tested.
+    #[tactic(auto, using(crate::proofs::Laws::HalfRoot::tested))]
     fn half_root(self, guess: f64) -> f64
         ensures { result ≡ half_root (whole self.n) self.n.cut self.exponent }
     {
@@ -184,20 +188,7 @@ fn magnitude(x: f64) -> u64
     ensures value { result ≡ to_bits binary64 x % 2 ^ 63 }
     ensures t { T (fits binary64 x) }
 {
-    if x.is_nan() {
-        return 0x7ff8_0000_0000_0000;
-    }
-    f64::to_bits(x) % SIGN
-}
-
-// The bit pattern of x; 0 for a NaN.
-fn pattern(x: f64) -> u64
-    ensures { 0 < result → result ≡ to_bits binary64 x }
-{
-    if x.is_nan() {
-        return 0;
-    }
-    f64::to_bits(x)
+    f64_to_bits_with_nan(x) % SIGN
 }
 
 // ---- a guess at a root: nothing is proved of it, and no answer depends on it
@@ -221,6 +212,7 @@ fn between(a: u64, b: u64, t: u64) -> u64
 
 // A number near the root of the value with the bit pattern b: the pattern halved, and a line between two roots. It has 25
 // digits, so that its square is exact.
+#[tactic(auto, using(crate::proofs::Laws::Units::pattern_real))]
 fn first_guess(b: u64) -> f64
     requires { b < 2 ^ 63 }
 {
@@ -325,10 +317,11 @@ pub fn root_with(x: f64, guess: f64) -> f64
 }
 
 // The root of x. 1 is its own root, and is told apart since most roots on product states are of 1.
+#[tactic(auto, using(crate::proofs::Laws::Patterns::one_root))]
 pub fn root(x: f64) -> f64
     ensures { result ≡ root_of x }
 {
-    if pattern(x) == 0x3ff0_0000_0000_0000 {
+    if f64_to_bits_with_nan(x) == ONE {
         return x;
     }
     root_with(x, root_guess(x))
