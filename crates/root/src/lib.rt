@@ -53,7 +53,7 @@ fn digits(d: u64, mut q: u64, mut r: u64) -> Found
     for _ in 0..27u64 {
         let t = 4 * r + (s >> 62);
         let c = 4 * q + 1;
-        let b: u64 = if t < c { 0 } else { 1 };
+        let b = (t >= c) as u64;
         s = s << 2;
         q = 2 * q + b;
         r = t - b * c;
