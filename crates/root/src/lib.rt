@@ -3,7 +3,7 @@
 // test refuses, the root is found a binary digit at a time, highest first, in 64-bit words.
 #![tactic(auto)]
 
-ghost use Rattle.std.specs.Prelude.{◌≡◌, ◌+◌, ◌-◌, ◌*◌, ◌/◌, ◌%◌, ◌^◌, ◌<◌, ◌≤◌, false, ◌&&◌, ◌||◌, T, ltb, if◌then◌else◌, from_bits, nat_lt, to_bits};
+ghost use Rattle.std.specs.Prelude.{◌≡◌, ◌+◌, ◌-◌, ◌*◌, ◌%◌, ◌^◌, ◌<◌, ◌≤◌, false, ◌&&◌, ◌||◌, T, from_bits, nat_lt, to_bits};
 ghost use Rattle.std.specs.Float.{binary64};
 ghost use Rattle.std.specs.Float.Ieee.{fits, units};
 ghost use Rattle.root.specs.Root.{root_of};
@@ -19,8 +19,17 @@ ghost use Rattle.root.specs.NormMethod.{scaled_sum, cut_off};
 mod wide;
 
 use complex::Complex;
-use std::num::wrapping_sub_u64;
+use std::num::{f64_to_bits_with_nan, wrapping_sub_u64};
 use wide::Wide;
+
+// The sign's bit of a bit pattern.
+const SIGN: u64 = 0x8000_0000_0000_0000;
+
+// The infinity's bit pattern. Without the sign's bit, finite values are below it and NaNs above.
+const INFINITY: u64 = 0x7ff0_0000_0000_0000;
+
+// The bit pattern of 1.
+const ONE: u64 = 0x3ff0_0000_0000_0000;
 
 // ---- half of a root
 
@@ -44,7 +53,7 @@ fn digits(d: u64, mut q: u64, mut r: u64) -> Found
     for _ in 0..27u64 {
         let t = 4 * r + (s >> 62);
         let c = 4 * q + 1;
-        let b: u64 = if t < c { 0 } else { 1 };
+        let b = (t >= c) as u64;
         s = s << 2;
         q = 2 * q + b;
         r = t - b * c;
@@ -76,8 +85,8 @@ fn from_units(h: u64, g: u64) -> f64
     ensures { result ≡ units binary64 false h g }
 {
     let b = g * 0x10_0000_0000_0000 + h;
-    if b > 0x7ff0_0000_0000_0000 {
-        f64::from_bits(0x7ff0_0000_0000_0000)
+    if b > INFINITY {
+        f64::INFINITY
     } else {
         f64::from_bits(b)
     }
@@ -127,6 +136,7 @@ impl Radicand {
     }
 
     // The same, where the answer is likely to be `guess`, which may be anything: its half is tested.
+    #[tactic(auto, using(crate::proofs::Laws::HalfRoot::tested))]
     fn half_root(self, guess: f64) -> f64
         ensures { result ≡ half_root (whole self.n) self.n.cut self.exponent }
     {
@@ -178,20 +188,7 @@ fn magnitude(x: f64) -> u64
     ensures value { result ≡ to_bits binary64 x % 2 ^ 63 }
     ensures t { T (fits binary64 x) }
 {
-    if x.is_nan() {
-        return 0x7ff8_0000_0000_0000;
-    }
-    f64::to_bits(x) % 0x8000_0000_0000_0000
-}
-
-// The bit pattern of x; 0 for a NaN.
-fn pattern(x: f64) -> u64
-    ensures { 0 < result → result ≡ to_bits binary64 x }
-{
-    if x.is_nan() {
-        return 0;
-    }
-    f64::to_bits(x)
+    f64_to_bits_with_nan(x) % SIGN
 }
 
 // ---- a guess at a root: nothing is proved of it, and no answer depends on it
@@ -215,6 +212,7 @@ fn between(a: u64, b: u64, t: u64) -> u64
 
 // A number near the root of the value with the bit pattern b: the pattern halved, and a line between two roots. It has 25
 // digits, so that its square is exact.
+#[tactic(auto, using(crate::proofs::Laws::Units::pattern_real))]
 fn first_guess(b: u64) -> f64
     requires { b < 2 ^ 63 }
 {
@@ -240,7 +238,7 @@ fn root_guess(x: f64) -> f64 {
     if x.is_nan() {
         return x;
     }
-    let g = first_guess(f64::to_bits(x) % 0x8000_0000_0000_0000);
+    let g = first_guess(f64::to_bits(x) % SIGN);
     refined(g, x - g * g, 1.0 / x)
 }
 
@@ -266,7 +264,7 @@ fn norm_guess(a: Complex) -> f64 {
     if z.is_nan() {
         return z;
     }
-    let g = first_guess(f64::to_bits(z) % 0x8000_0000_0000_0000);
+    let g = first_guess(f64::to_bits(z) % SIGN);
     refined(g, excess(a, g), 1.0 / z)
 }
 
@@ -306,23 +304,24 @@ pub fn root_with(x: f64, guess: f64) -> f64
     if b == 0 {
         return x;
     }
-    if b == 0x8000_0000_0000_0000 {
+    if b == SIGN {
         return x;
     }
-    if b > 0x8000_0000_0000_0000 {
+    if b > SIGN {
         return f64::NAN;
     }
-    if b >= 0x7ff0_0000_0000_0000 {
+    if b >= INFINITY {
         return x;
     }
     positive(b, guess)
 }
 
 // The root of x. 1 is its own root, and is told apart since most roots on product states are of 1.
+#[tactic(auto, using(crate::proofs::Laws::Patterns::one_root))]
 pub fn root(x: f64) -> f64
     ensures { result ≡ root_of x }
 {
-    if pattern(x) == 0x3ff0_0000_0000_0000 {
+    if f64_to_bits_with_nan(x) == ONE {
         return x;
     }
     root_with(x, root_guess(x))
@@ -371,12 +370,11 @@ fn finite_norm(x: u64, y: u64, guess: f64) -> f64
 pub fn norm_with(a: Complex, guess: f64) -> f64
     ensures { result ≡ norm_of a }
 {
-    let top: u64 = 0x7ff0_0000_0000_0000;
     let x = magnitude(a.re);
     let y = magnitude(a.im);
-    if (x == top) | (y == top) {
-        f64::from_bits(top)
-    } else if (x > top) | (y > top) {
+    if (x == INFINITY) | (y == INFINITY) {
+        f64::INFINITY
+    } else if (x > INFINITY) | (y > INFINITY) {
         f64::NAN
     } else {
         finite_norm(x.max(y), x.min(y), guess)

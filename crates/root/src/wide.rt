@@ -22,6 +22,7 @@ impl Wide {
     }
 
     // The square of m, by halves of 27 binary digits.
+    #[tactic(auto, using(crate::proofs::Laws::Wide::square_whole))]
     pub(crate) fn square(m: u64) -> Wide
         requires { m < 2 ^ 54 }
         ensures { Holds result (m * m) false }

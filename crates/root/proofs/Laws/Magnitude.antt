@@ -1,7 +1,7 @@
 -- The size of a number by its parts' bit patterns without their signs, as `norm` finds it. Assumes nothing.
 use Rattle.std.proofs.lemmas.Bool.{eqb-false}
-use Rattle.std.proofs.Common.{ltb-true, ltb-false, eq-eqb, ne_eqb, lt-ltb, le-ltb, sym, ap, ap₂, ◌∙◌, subst, true≢false, add_comm, le_of_eq, le_of_lt, lt_irrefl, lt_trans, lt_of_not-le}
-use Rattle.std.specs.Prelude.{◌≡◌, ℕ, ◌+◌, ◌*◌, ◌%◌, ◌^◌, ◌<◌, ◌≤◌, Bool, true, false, cond, ◌||◌, T, ltb, ℤ, ◌==◌, from_bits, max, min, nat_eq, nat_lt, to_bits, refl, Float}
+use Rattle.std.proofs.Common.{ltb-false, eq-eqb, ne_eqb, lt-ltb, le-ltb, sym, ap, ap₂, ◌∙◌, subst, true≢false, add_comm, le_of_eq, le_of_lt, lt_irrefl, lt_trans, lt_of_not-le}
+use Rattle.std.specs.Prelude.{◌≡◌, ℕ, ◌+◌, ◌*◌, ◌%◌, ◌^◌, ◌<◌, ◌≤◌, Bool, true, false, ◌||◌, T, ltb, ℤ, ◌==◌, from_bits, max, min, nat_eq, nat_lt, to_bits, refl, Float}
 use Rattle.std.proofs.Math.Arith.{lt_of_le-ne}
 use Rattle.std.proofs.Math.Nat.{max-eq_left, max-eq_right, min-eq_left, min-eq_right}
 use Rattle.std.proofs.Math.Decide.{dec_le}

@@ -5,7 +5,7 @@ use Rattle.root.proofs.Laws.FromUnits.{decoded_exponent}
 use Rattle.root.proofs.Laws.Wide.{upper_lt, upper_ge}
 use Rattle.root.specs.HalfRoot.{half_root}
 use Rattle.root.specs.NormMethod.{scaled_sum}
-use Rattle.root.proofs.Laws.NormMethod.{exponents_ordered, far, near, longer_le, longer_range}
+use Rattle.root.proofs.Laws.NormMethod.{far, near, longer_le, longer_range}
 use Rattle.root.proofs.finite_norm.Goals as goal
 
 pub float_from_bits-result : goal.float_from_bits-result

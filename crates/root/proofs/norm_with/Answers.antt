@@ -1,24 +1,19 @@
 -- `root::norm_with` meets its contract: the parts' patterns without signs tell which case of `norm_of` it is (`specs/Magnitude.antt`). Assumes nothing.
-use Rattle.std.proofs.Common.{◌≡◌, ◌<◌, ap, ◌∙◌, le_refl}
-use lib.Ieee.{binary64, of_bits}
-use Rattle.root.proofs.Laws.Units.{pattern_real}
-use Rattle.root.specs.Patterns.{top}
+use Rattle.std.proofs.Common.{ap, ◌∙◌}
 use Rattle.root.proofs.Laws.Patterns.{nan_value}
 use Rattle.root.specs.NearestRoot.{nearest_root}
-use Rattle.root.specs.Norm.{sum_of_squares, norm_of}
 use Rattle.root.proofs.Laws.FromUnits.{top_value}
-use Rattle.root.proofs.Laws.Magnitude.{size_infinite, size_nan, patterns_below, size_finite, in_order, either_order}
+use Rattle.root.proofs.Laws.Magnitude.{size_infinite, size_nan, size_finite, either_order}
 use Rattle.root.proofs.norm_with.Goals as goal
 
-pub float_from_bits-result : goal.float_from_bits-result
-float_from_bits-result c = pattern_real _ (le_refl 0x7FF0_0000_0000_0000)
+pub returns-then-x-y : goal.returns-then-x-y
+returns-then-x-y c = top_value ∙ size_infinite c.args.a _ _ c.magnitude-x.ensures.value c.magnitude-y.ensures.value c.magnitude-x.ensures.t c.magnitude-y.ensures.t c.if-x-y.true
 
-pub returns-then-x-top : goal.returns-then-x-top
-returns-then-x-top c = top_value ∙ size_infinite c.args.a _ _ c.magnitude-x.ensures.value c.magnitude-y.ensures.value c.magnitude-x.ensures.t c.magnitude-y.ensures.t c.if-x-top.true
+pub returns-then-x-y-2 : goal.returns-then-x-y-2
+returns-then-x-y-2 c = nan_value ∙ size_nan c.args.a _ _ c.magnitude-x.ensures.value c.magnitude-y.ensures.value c.magnitude-x.ensures.t c.magnitude-y.ensures.t c.if-x-y.false c.if-x-y-2.true
 
-pub returns-then-x-top-2 : goal.returns-then-x-top-2
-returns-then-x-top-2 c = nan_value ∙ size_nan c.args.a _ _ c.magnitude-x.ensures.value c.magnitude-y.ensures.value c.magnitude-x.ensures.t c.magnitude-y.ensures.t c.if-x-top.false c.if-x-top-2.true
-
-pub returns-else-x-top-2 : goal.returns-else-x-top-2
-returns-else-x-top-2 c = let finite : let b = c.magnitude-x.result in let d = c.magnitude-y.result in ((b < top) × (d < top)) × (nearest_root (sum_of_squares (of_bits binary64 b) (of_bits binary64 d)) ≡ norm_of c.args.a) = (patterns_below c.args.a _ _ c.magnitude-x.ensures.value c.magnitude-y.ensures.value c.magnitude-x.ensures.t c.magnitude-y.ensures.t c.if-x-top.false c.if-x-top-2.false, size_finite c.args.a _ _ c.magnitude-x.ensures.value c.magnitude-y.ensures.value c.magnitude-x.ensures.t c.magnitude-y.ensures.t c.if-x-top.false c.if-x-top-2.false) in
-    c.finite_norm.ensures ∙ ap nearest_root (rw (c.max.ensures, c.min.ensures) (either_order _ _)) ∙ finite.1
+pub returns-else-x-y-2 : goal.returns-else-x-y-2
+returns-else-x-y-2 c =
+    c.finite_norm.ensures
+    ∙ ap nearest_root (rw (c.max.ensures, c.min.ensures) (either_order _ _))
+    ∙ size_finite c.args.a _ _ c.magnitude-x.ensures.value c.magnitude-y.ensures.value c.magnitude-x.ensures.t c.magnitude-y.ensures.t c.if-x-y.false c.if-x-y-2.false

@@ -1,5 +1,5 @@
 -- `root::positive` meets its contract (`specs/RootMethod.antt`). Assumes nothing.
-use Rattle.std.proofs.Common.{◌∙◌, arith, lit<}
+use Rattle.std.proofs.Common.{◌∙◌, arith}
 use Rattle.root.proofs.Laws.RootMethod.{zeros_range, exponents, hi_range, root_found}
 use Rattle.root.proofs.positive.Goals as goal
 

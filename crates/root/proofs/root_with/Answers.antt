@@ -17,13 +17,13 @@ pub returns-then-b : goal.returns-then-b
 returns-then-b c = let held : T (fits binary64 c.args.x) = subst T (sym c.well_formed.0.1) tt in
     minus_zero_root c.args.x held c.if-b.true
 
-pub returns-then-b-gt9223372036854775808 : goal.returns-then-b-gt9223372036854775808
-returns-then-b-gt9223372036854775808 c = let held : T (fits binary64 c.args.x) = subst T (sym c.well_formed.0.1) tt in
-    nan_value ∙ below_root c.args.x held c.if-b-gt9223372036854775808.true
+pub returns-then-b-gt-SIGN : goal.returns-then-b-gt-SIGN
+returns-then-b-gt-SIGN c = let held : T (fits binary64 c.args.x) = subst T (sym c.well_formed.0.1) tt in
+    nan_value ∙ below_root c.args.x held c.if-b-gt-SIGN.true
 
-pub returns-then-b-ge9218868437227405312 : goal.returns-then-b-ge9218868437227405312
-returns-then-b-ge9218868437227405312 c = let held : T (fits binary64 c.args.x) = subst T (sym c.well_formed.0.1) tt in
-    top_root c.args.x held c.if-b-ge9218868437227405312.true (omega (arith, c.if-b-gt9223372036854775808.false, c.if-b.false))
+pub returns-then-b-ge-INFINITY : goal.returns-then-b-ge-INFINITY
+returns-then-b-ge-INFINITY c = let held : T (fits binary64 c.args.x) = subst T (sym c.well_formed.0.1) tt in
+    top_root c.args.x held c.if-b-ge-INFINITY.true (omega (arith, c.if-b-gt-SIGN.false, c.if-b.false))
 
 pub returns : goal.returns
 returns c = let held : T (fits binary64 c.args.x) = subst T (sym c.well_formed.0.1) tt in

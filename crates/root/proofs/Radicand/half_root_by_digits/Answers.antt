@@ -1,7 +1,7 @@
 -- `Radicand::half_root_by_digits` meets its contract: two runs of `digits` find the whole root (`specs/HalfRoot.antt`). Assumes nothing.
 use Rattle.std.proofs.Common.{ℕ, false, ap, ◌∙◌}
 use lib.Ieee.{binary64, units}
-use Rattle.root.proofs.Laws.HalfRoot.{first_few, half_digits, half_found}
+use Rattle.root.proofs.Laws.HalfRoot.{half_digits, half_found}
 use Rattle.root.proofs.Radicand.half_root_by_digits.Goals as goal
 
 pub from_units-requires : goal.from_units-requires

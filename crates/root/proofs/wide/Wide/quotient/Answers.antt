@@ -1,6 +1,6 @@
 -- `Wide::quotient` meets its contract (`specs/Wide.antt`). Assumes nothing.
 use Rattle.std.proofs.Common.{ltb, refl, ap, ◌∙◌, arith}
-use Rattle.root.proofs.Laws.Wide.{divisor_pos, quotient_low, quotient_whole, quotient_left}
+use Rattle.root.proofs.Laws.Wide.{quotient_low, quotient_whole, quotient_left}
 use Rattle.root.proofs.wide.Wide.quotient.Goals as goal
 use Rattle.root.proofs.wide.Wide.quotient.Goals.{then-self, else-self}
 
