@@ -1,6 +1,6 @@
 use Rattle.std.proofs.Common.{arith, sym, ◌∙◌, length-set}
 use Rattle.stream.specs.Feeding.{with_byte, after}
-use Rattle.stream.proofs.Laws.Turns.{whole_within, all_taken, shut, one_byte}
+use Rattle.stream.proofs.Laws.Turns.{whole_within, one_byte}
 use Rattle.stream.proofs.feed.Goals as goal
 
 pub do_if_whole-requires-clause-in_bytes : goal.do_if_whole-requires-clause-in_bytes
@@ -14,9 +14,3 @@ loop-byte-preserved c =
     let d = c.do_if_whole in
     let w = whole_within (with_byte f _) _ d.ensures (c.can_take.ensures.has_room c.if-not-can_take.false).1 in
     (omega (arith, w.0, l.invariant.0), w.1, one_byte f piece l.byte-index c.loop-byte-test.true (sym c.can_take.ensures.as_defined ∙ c.if-not-can_take.false) _ d.ensures ∙ l.invariant.2)
-
-pub returns-after-loop-byte : goal.returns-after-loop-byte
-returns-after-loop-byte c = let l = c.loop-byte in all_taken (after l.fed l.store l.work l.bytes l.text) c.args.piece.now l.byte-index c.loop-byte-test.false ∙ l.invariant.2
-
-pub returns-then-not-can_take : goal.returns-then-not-can_take
-returns-then-not-can_take c = let l = c.loop-byte in shut (after l.fed l.store l.work l.bytes l.text) c.args.piece.now l.byte-index (sym c.can_take.ensures.as_defined ∙ c.if-not-can_take.true) ∙ l.invariant.2

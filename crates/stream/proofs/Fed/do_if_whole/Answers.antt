@@ -1,11 +1,8 @@
 use Rattle.std.proofs.Common.{arith, ◌∙◌, sym}
 use Rattle.lines.specs.Writing.{length_line}
 use Rattle.stream.specs.Feeding.{after}
-use Rattle.stream.proofs.Laws.Turns.{line_long, waits, is_done}
+use Rattle.stream.proofs.Laws.Turns.{line_long, is_done}
 use Rattle.stream.proofs.Fed.do_if_whole.Goals as goal
-
-pub returns-then-not-is_whole : goal.returns-then-not-is_whole
-returns-then-not-is_whole c = let a = c.args in waits (after a.self.now a.store.now a.work.now a.bytes.now a.text.now) (sym c.is_whole.ensures ∙ c.if-not-is_whole.true)
 
 pub overflow_add-self : goal.overflow_add-self
 overflow_add-self c = omega (arith, c.write_line.ensures.value ∙ line_long c.step-out.result.line c.args.text.now c.args.self.now.written c.requires.has_room, length_line c.step-out.result.line, c.requires.has_room, c.well_formed)
