@@ -39,7 +39,7 @@ impl Fed {
     }
 
     // A record that is whole is done: its step, and its line behind the text that is there.
-    #[tactic(auto, using(crate::proofs::Laws::Turns::waits))]
+    #[tactic(auto, using(crate::proofs::Laws::Turns::waits, crate::proofs::Laws::Turns::line_long, lines::specs::Writing::length_line))]
     fn do_if_whole(&mut self, store: &mut [f64], work: &mut [f64], bytes: &[u8], text: &mut [u8])
         requires in_bytes { self.old.run.pending ≤ length bytes.now }
         requires has_room { self.old.written + 25 ≤ length text.old }
