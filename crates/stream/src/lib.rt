@@ -2,9 +2,9 @@
 // whole input is defined in specs/Output.antt, what one piece does in specs/Feeding.antt.
 #![tactic(auto)]
 
-ghost use Rattle.std.specs.Prelude.{◌+◌, ◌≤◌, false, ◌≡◌, length};
+ghost use Rattle.std.specs.Prelude.{◌+◌, ◌≤◌, ◌<◌, true, ◌≡◌, length};
 ghost use Rattle.record.specs.Frames.{whole};
-ghost use Rattle.stream.specs.Feeding.{progress, record_done, can_take, before, after, fed, new_run, ending, ended};
+ghost use Rattle.stream.specs.Feeding.{can_take, if_whole, before, after, fed, new_run, ending, ended};
 
 use lines::{Detail, Line, write_line};
 use record::more_bytes;
@@ -18,7 +18,8 @@ pub struct Run {
     pub stopped: bool,
 }
 
-// What a piece did: the run after it, how many of its bytes were taken, and how many bytes of text were written.
+// What a piece did: the run after it, how many of its bytes were taken, and how many bytes of text were written. The
+// bytes and the text themselves are fixed memory that the host lends, so that a slice has its count here.
 #[derive(Clone, Copy)]
 pub struct Fed {
     pub run: Run,
@@ -26,69 +27,61 @@ pub struct Fed {
     pub written: usize,
 }
 
-// The session after a record, whether reading stops, and where the text ends.
-#[derive(Clone, Copy)]
-struct Turned {
-    session: Session,
-    stops: bool,
-    written: usize,
+impl Fed {
+    // Whether a byte more can be taken: reading has not stopped, the byte has a place, and a line has room.
+    #[tactic(auto, unfolding(crate::specs::Feeding::can_take))]
+    fn can_take(&self, places: usize, room: usize) -> bool
+        requires { self.now.written ≤ room }
+        ensures as_defined { result ≡ can_take self.now.run.stopped self.now.run.pending places self.now.written room }
+        ensures has_room { result ≡ true → (self.now.run.pending < places) × (self.now.written + 25 ≤ room) }
+    {
+        !self.run.stopped && self.run.pending < places && 25 <= room - self.written
+    }
+
+    // A record that is whole is done: its step, and its line behind the text that is there.
+    #[tactic(auto, using(crate::proofs::Laws::Turns::waits, crate::proofs::Laws::Turns::line_long, lines::specs::Writing::length_line))]
+    fn do_if_whole(&mut self, store: &mut [f64], work: &mut [f64], bytes: &[u8], text: &mut [u8])
+        requires in_bytes { self.old.run.pending ≤ length bytes.now }
+        requires has_room { self.old.written + 25 ≤ length text.old }
+        ensures { after self.new store.new work.new bytes.now text.new ≡ if_whole (after self.old store.old work.old bytes.now text.old) }
+    {
+        let record = &bytes[..self.run.pending];
+        if !is_whole(record) {
+            return;
+        }
+        let out = step(self.run.session, store, work, record);
+        self.written += write_line(&mut text[self.written..], out.line);
+        self.run.session = out.session;
+        self.run.stopped = out.line.kind == 0;
+        self.run.pending = 0;
+    }
 }
 
 pub fn new_run() -> Run
     ensures { result ≡ new_run }
 {
-    let session = new_session();
     Run {
-        session: session,
+        session: new_session(),
         pending: 0,
         stopped: false,
     }
 }
 
 // Whether the bytes hold a whole record: the two of its length, and as many as that says.
+#[tactic(auto, using(crate::proofs::Laws::Turns::half_a_length, crate::proofs::Laws::Turns::as_its_length_says))]
 fn is_whole(bytes: &[u8]) -> bool
     ensures { result ≡ whole bytes.now }
 {
-    if bytes.len() < 2 {
+    let [low, high, rest @ ..] = bytes else {
         return false;
-    }
-    more_bytes(bytes[0], bytes[1]) <= bytes.len() - 2
-}
-
-// A record's step, and its line behind the text that is there.
-fn do_record(
-    session: Session,
-    store: &mut [f64],
-    work: &mut [f64],
-    bytes: &[u8],
-    text: &mut [u8],
-    written: usize,
-) -> Turned
-    requires { written + 25 ≤ length text.old }
-    ensures { progress result.session result.stops store.new work.new text.new result.written ≡ record_done (progress session false store.old work.old text.old written) bytes.now }
-{
-    let out = step(session, store, work, bytes);
-    let line = out.line;
-    let n = write_line(&mut text[written..], line);
-    let after = out.session;
-    Turned {
-        session: after,
-        stops: line.kind == 0,
-        written: written + n,
-    }
-}
-
-// Whether a byte more can be taken: reading has not stopped, the byte has a place, and a line has room.
-fn can_take(stopped: bool, pending: usize, places: usize, written: usize, room: usize) -> bool
-    requires { written ≤ room }
-    ensures { result ≡ can_take stopped pending places written room }
-{
-    !stopped & ((pending < places) & (25 <= room - written))
+    };
+    more_bytes(*low, *high) <= rest.len()
 }
 
 // Takes the bytes of a piece, does every record that they complete, and writes the records' lines to the text. `bytes`
 // holds the record in progress, and needs 262. A byte is taken only while the text has room for a line, 25 bytes: if
 // fewer bytes were used than the piece has, and reading has not stopped, room is what is lacking.
+#[tactic(auto, using(crate::proofs::Laws::Turns::all_taken, crate::proofs::Laws::Turns::shut))]
 pub fn feed(
     run: Run,
     store: &mut [f64],
@@ -99,40 +92,30 @@ pub fn feed(
 ) -> Fed
     ensures { after result store.new work.new bytes.new text.new ≡ fed (before run store.old work.old bytes.old text.old) piece.now }
 {
-    let mut session = run.session;
-    let mut pending = run.pending;
-    let mut stopped = run.stopped;
-    let mut written: usize = 0;
-    let mut used: usize = 0;
-    while used < piece.len() && can_take(stopped, pending, bytes.len(), written, text.len()) {
-        bytes[pending] = piece[used];
-        pending += 1;
-        used += 1;
-        if is_whole(&bytes[..pending]) {
-            let done = do_record(session, store, work, &bytes[..pending], text, written);
-            session = done.session;
-            stopped = done.stops;
-            written = done.written;
-            pending = 0;
+    let mut fed = Fed {
+        run,
+        used: 0,
+        written: 0,
+    };
+    for byte in piece {
+        if !fed.can_take(bytes.len(), text.len()) {
+            break;
         }
+        bytes[fed.run.pending] = *byte;
+        fed.run.pending += 1;
+        fed.used += 1;
+        fed.do_if_whole(store, work, bytes, text);
     }
-    Fed {
-        run: Run {
-            session: session,
-            pending: pending,
-            stopped: stopped,
-        },
-        used: used,
-        written: written,
-    }
+    fed
 }
 
 // The input's end: a record that is cut off gives the line `0 8`. The answer is how many bytes of text were written;
 // none where the text has less room than 25.
+#[tactic(auto, using(crate::proofs::Laws::Turns::nothing_more, crate::proofs::Laws::Turns::cut_off))]
 pub fn end(run: Run, text: &mut [u8]) -> usize
     ensures { ending text.new result ≡ ended run text.old }
 {
-    if run.stopped | (run.pending == 0) {
+    if run.stopped || run.pending == 0 {
         return 0;
     }
     write_line(

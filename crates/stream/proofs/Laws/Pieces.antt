@@ -63,7 +63,7 @@ module _ (f : Feeding) (u : Underway f) (b : ℕ) (h : takes f ≡ true) where
   next = with_byte f b
 
   goes : (f.progress.stopped ≡ false) × (f.pending < length f.bytes) × (f.progress.written + line_room ≤ length f.progress.text)
-  goes = taking f.progress.stopped f.pending (length f.bytes) f.progress.written (length f.progress.text) (takes f) refl h
+  goes = taking f h
 
   mid : whole (in_progress next) ≡ false → OneByte f next b
   mid w = record {
