@@ -41,7 +41,10 @@ fn write_record<W: Write>(writer: &mut W, chain: &Chain) -> io::Result<()> {
     let high = chain.bond_high_water;
     let discarded = to_bits(chain.truncation_discarded);
     let flags = flags(&chain.classical_bits);
-    writeln!(writer, " high {high} discarded {discarded:016X} flags {flags:016X}")
+    writeln!(
+        writer,
+        " high {high} discarded {discarded:016X} flags {flags:016X}"
+    )
 }
 
 fn write_labels<W: Write>(writer: &mut W, chain: &Chain) -> io::Result<()> {
