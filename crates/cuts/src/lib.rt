@@ -277,7 +277,8 @@ pub fn apply_adjacent_two_qubit(
         return cut_centered(chain, store, work, gate, k);
     }
     let cut = cut_pair(chain, store, work, gate, k)?;
-    if cut.kept.resolvable {
+    let loses = cut.kept.resolvable;
+    if loses {
         establish_center(chain, store, work, k);
         return cut_prepared(chain, store, work, gate, k, WeightSide::Right);
     }

@@ -22,12 +22,12 @@ cut_prepared-requires c = let h = c.requires in let p = c.cut_pair in let e = c.
     let x = established_keeps _ _ _ _ h.ready.sound _ h.k_bound e.ensures in
     record { ready = ready_keeps _ _ _ _ _ _ h.ready x e.auto.store (e.auto.work ∙ p.auto.work); k_bound = omega (arith, x.qubits, h.k_bound) }
 
-pub returns-then-cut : goal.returns-then-cut
-returns-then-cut c = twice _ _ _ _ c.pair_bonds-bonds.ensures.value (sym c.workspace_exceeded.ensures ∙ c.if-workspace_exceeded.false) (sym c.keeps_center.ensures ∙ c.if-keeps_center.false) c.requires.ready.sound c.requires.k_bound
-    (cut_again _ _ _ _ _ c.in_ok-cut.ensures.cut c.if-cut.true) _ _ c.establish_center.ensures c.cut_prepared.ensures
+pub returns-then-loses : goal.returns-then-loses
+returns-then-loses c = twice _ _ _ _ c.pair_bonds-bonds.ensures.value (sym c.workspace_exceeded.ensures ∙ c.if-workspace_exceeded.false) (sym c.keeps_center.ensures ∙ c.if-keeps_center.false) c.requires.ready.sound c.requires.k_bound
+    (cut_again _ _ _ _ _ c.in_ok-cut.ensures.cut c.if-loses.true) _ _ c.establish_center.ensures c.cut_prepared.ensures
 
 pub returns : goal.returns
 returns c =
     let h = c.in_ok-cut.ensures.cut in
     rw (c.store_cut.ensures, h.kept.reason)
-    (bare_once _ _ _ _ c.pair_bonds-bonds.ensures.value (sym c.workspace_exceeded.ensures ∙ c.if-workspace_exceeded.false) (sym c.keeps_center.ensures ∙ c.if-keeps_center.false) _ (cut_stored_lem _ _ _ _ _ h false Right c.if-cut.false) refl)
+    (bare_once _ _ _ _ c.pair_bonds-bonds.ensures.value (sym c.workspace_exceeded.ensures ∙ c.if-workspace_exceeded.false) (sym c.keeps_center.ensures ∙ c.if-keeps_center.false) _ (cut_stored_lem _ _ _ _ _ h false Right c.if-loses.false) refl)
