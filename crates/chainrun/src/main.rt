@@ -38,7 +38,8 @@ fn print_end<W: Write>(writer: &mut W, run: Run, text: &mut [u8]) -> io::Result<
 }
 
 // One piece: read, fed, and its lines printed. `bytes` holds the record in progress. The answer is the run that goes on;
-// none where the input has ended or reading stops.
+// none where the input has ended or reading stops. The slices are no struct: tried, and the proof didn't close, since the
+// borrow checker's part of it doesn't cover a call that is lent several fields from behind one reference.
 fn turn<R: Read, W: Write>(
     reader: &mut R,
     writer: &mut W,
