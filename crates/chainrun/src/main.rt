@@ -2,7 +2,7 @@
 // the reads and writes. It stops at the input's end, after the line `0 8`, and where a read or a write fails.
 #![tactic(auto)]
 
-ghost use Rattle.std.specs.Prelude.{◌≤◌, ◌≡◌, length, take, IfOk, OnOk, IfSome};
+ghost use Rattle.std.specs.Prelude.{◌≤◌, ◌≡◌, length, take, IfOk, OnOk, IfSome, option_map};
 ghost use Rattle.std.specs.Io.KnownBytes.{ReadConsumes, Appends};
 ghost use Rattle.stream.specs.Output.{new_store, new_work};
 ghost use Rattle.stream.specs.Feeding.{before, Underway, ended};
@@ -11,13 +11,6 @@ ghost use Rattle.chainrun.specs.Program.{HaveRoom, Turn, Prints};
 use std::io;
 use std::io::{Read, Write};
 use stream::{Run, end, feed, new_run};
-
-// The run after a piece of the input, and whether another is to be read.
-#[derive(Clone, Copy)]
-struct Turned {
-    run: Run,
-    goes_on: bool,
-}
 
 // Reads what is there, as far as the slice goes, and answers how many bytes came; 0 at the input's end.
 fn read_piece<R: Read>(reader: &mut R, piece: &mut [u8]) -> io::Result<usize>
@@ -44,7 +37,9 @@ fn print_end<W: Write>(writer: &mut W, run: Run, text: &mut [u8]) -> io::Result<
     print_front(writer, text, n)
 }
 
-// One piece: read, fed, and its lines printed. `bytes` holds the record in progress.
+// One piece: read, fed, and its lines printed. `bytes` holds the record in progress. The answer is the run that goes on;
+// none where the input has ended or reading stops. The slices are no struct: tried, and the proof didn't close, since the
+// borrow checker's part of it doesn't cover a call that is lent several fields from behind one reference.
 fn turn<R: Read, W: Write>(
     reader: &mut R,
     writer: &mut W,
@@ -54,24 +49,17 @@ fn turn<R: Read, W: Write>(
     bytes: &mut [u8],
     piece: &mut [u8],
     text: &mut [u8],
-) -> io::Result<Turned>
-    ensures { IfOk result (λ t. HaveRoom bytes.old piece.old text.old → Underway (before run store.old work.old bytes.old text.old) → IfSome (R.remaining reader.old) (λ input. Turn (before run store.old work.old bytes.old text.old) (before t.run store.new work.new bytes.new text.new) input (R.remaining reader.new) (W.contents writer.old) (W.contents writer.new) t.goes_on)) }
+) -> io::Result<Option<Run>>
+    ensures { IfOk result (λ next. HaveRoom bytes.old piece.old text.old → Underway (before run store.old work.old bytes.old text.old) → IfSome (R.remaining reader.old) (λ input. Turn (before run store.old work.old bytes.old text.old) (option_map (λ after. before after store.new work.new bytes.new text.new) next) input (R.remaining reader.new) (W.contents writer.old) (W.contents writer.new))) }
 {
     let got = read_piece(reader, piece)?;
     if got == 0 {
         print_end(writer, run, text)?;
-        return Ok(Turned {
-            run: run,
-            goes_on: false,
-        });
+        return Ok(None);
     }
     let fed = feed(run, store, work, bytes, &piece[..got], text);
-    let after = fed.run;
     print_front(writer, text, fed.written)?;
-    Ok(Turned {
-        run: after,
-        goes_on: !after.stopped,
-    })
+    Ok((!fed.run.stopped).then_some(fed.run))
 }
 
 // The whole run: what it prints is the text of its input, however that comes in pieces. A proved loop has to end, and
@@ -92,11 +80,10 @@ fn run_all<R: Read, W: Write>(
 {
     let mut run = new_run();
     for _ in 0..u64::MAX {
-        let next = turn(reader, writer, run, store, work, bytes, piece, text)?;
-        if !next.goes_on {
+        let Some(after) = turn(reader, writer, run, store, work, bytes, piece, text)? else {
             return Ok(());
-        }
-        run = next.run;
+        };
+        run = after;
     }
     Ok(())
 }

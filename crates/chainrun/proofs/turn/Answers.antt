@@ -16,7 +16,7 @@ returns-then-got-eq0 g c room u =
     let left = g.R.Read.remaining c.read_piece.new.reader in
     let some_room : 0 < length piece = omega (arith, room.1, c.read_piece.auto.piece) in
     let bytes = c.in_ok-got.ensures.bytes in
-    at_the_end a.run a.store.now a.work.now a.bytes.now a.text.now u piece c.print_end.new.text before_it left (g.W.Write.contents a.writer.now) (g.W.Write.contents c.print_end.new.writer)
+    at_the_end a.run a.store.now a.work.now a.bytes.now a.text.now u piece before_it left (g.W.Write.contents a.writer.now) (g.W.Write.contents c.print_end.new.writer)
     some_room (omega (arith, room.2, c.read_piece.auto.piece)) (subst (λ n. Consumes before_it left (take n piece)) c.if-got-eq0.true bytes.0) (bytes.1 c.if-got-eq0.true some_room) c.in_ok-print_end.ensures
 
 pub returns : goal.returns
@@ -27,6 +27,6 @@ returns g c room u =
     let within = c.in_ok-got.ensures.in_bounds in
     let size = length-take-le got piece within in
     let fed = c.feed-fed in
-    after_a_piece a.run a.store.now a.work.now a.bytes.now a.text.now u (take got piece) (omega (arith, room.2, c.read_piece.auto.piece, size, within)) (after fed.result fed.new.store fed.new.work fed.new.bytes fed.new.text)
+    after_a_piece a.run a.store.now a.work.now a.bytes.now a.text.now u (take got piece) (omega (arith, room.2, c.read_piece.auto.piece, size, within)) (after fed.result fed.new.store fed.new.work fed.new.bytes fed.new.text) c.then_some.result
     (g.R.Read.remaining a.reader.now) (g.R.Read.remaining c.read_piece.new.reader) (g.W.Write.contents a.writer.now) (g.W.Write.contents c.print_front.new.writer)
-    fed.ensures (omega (arith, size, c.if-got-eq0.false)) c.in_ok-got.ensures.bytes.0 c.in_ok-print_front.ensures
+    fed.ensures c.then_some.ensures (omega (arith, size, c.if-got-eq0.false)) c.in_ok-got.ensures.bytes.0 c.in_ok-print_front.ensures
