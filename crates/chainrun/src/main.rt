@@ -30,6 +30,7 @@ fn print_front<W: Write>(writer: &mut W, text: &[u8], n: usize) -> io::Result<()
 }
 
 // The input has ended.
+#[tactic(auto, using(stream::proofs::Laws::Turns::ended_within))]
 fn print_end<W: Write>(writer: &mut W, run: Run, text: &mut [u8]) -> io::Result<()>
     ensures { OnOk result (Appends (W.contents writer.old) (W.contents writer.new) (take (ended run text.old).written (ended run text.old).text)) }
 {
