@@ -2,9 +2,6 @@
 // kind would print.
 #![tactic(auto)]
 
-ghost use Rattle.std.specs.Prelude.{◌≤◌, length, take, OnOk};
-ghost use Rattle.std.specs.Io.KnownBytes.{Appends};
-
 use chain::{apply_named_gate, measure, start};
 use gates::NamedGate;
 use lines::{Detail, Line, write_line};
@@ -89,28 +86,17 @@ fn unknown_kind() -> u8 {
     }
 }
 
-// The first n bytes, where there are so many.
-fn put<W: Write>(writer: &mut W, text: &[u8], n: usize) -> io::Result<()>
-    ensures { OnOk result (n ≤ length text.now → Appends (W.contents writer.old) (W.contents writer.new) (take n text.now)) }
-{
-    if n <= text.len() {
-        writer.write_all(&text[..n])
-    } else {
-        Ok(())
-    }
-}
-
 fn show<W: Write>(writer: &mut W, kind: u8, number: u8) -> io::Result<()> {
     let mut out = [0u8; 32];
     let n = write_line(
         &mut out,
         Line {
-            kind: kind,
-            number: number,
+            kind,
+            number,
             detail: Detail::Empty,
         },
     );
-    put(writer, &out, n)
+    writer.write_all(out.get(..n).unwrap_or(&[]))
 }
 
 fn main(rt: HostRuntime) -> io::Result<()> {

@@ -55,6 +55,7 @@ fn replay_record<W: Write>(
     Ok(Some(session))
 }
 
+// Each record says by its length where the next one begins, so that an index and no iterator goes over them.
 fn replay_records<W: Write>(
     writer: &mut W,
     store: &mut [f64],
@@ -84,7 +85,8 @@ fn replay_stream<W: Write>(writer: &mut W, bytes: &[u8]) -> io::Result<()> {
 
 // ---- the list
 
-// Reads until the slice is full or the input ends, and answers how many bytes came.
+// Reads until the slice is full or the input ends, and answers how many bytes came. Counted by hand, since each read says
+// how much it filled; `read_exact` does not tell a short end from a failure.
 fn read_full<R: Read>(reader: &mut R, bytes: &mut [u8]) -> io::Result<usize>
     ensures { IfOk result (λ n. n ≤ length bytes.new) }
 {

@@ -37,37 +37,21 @@ fn show_reason<W: Write>(writer: &mut W, answer: Applied) -> io::Result<()> {
     writer.write_all(word)
 }
 
-// The first n bytes, where there are so many.
-fn print<W: Write>(writer: &mut W, text: &[u8], n: usize) -> io::Result<()> {
-    if n <= text.len() {
-        writer.write_all(&text[..n])
-    } else {
-        Ok(())
-    }
-}
-
 // What the projection answered, as a line.
 fn show<W: Write>(writer: &mut W, answer: Projected) -> io::Result<()> {
-    let line = match answer {
-        Projected::Kept(weight) => Line {
-            kind: 4,
-            number: 0,
-            detail: Detail::Kept(weight),
-        },
-        Projected::Nothing => Line {
-            kind: 4,
-            number: 0,
-            detail: Detail::Nothing,
-        },
-        Projected::Refused(number) => Line {
-            kind: 4,
-            number: number,
-            detail: Detail::Empty,
-        },
+    let (number, detail) = match answer {
+        Projected::Kept(weight) => (0, Detail::Kept(weight)),
+        Projected::Nothing => (0, Detail::Nothing),
+        Projected::Refused(number) => (number, Detail::Empty),
+    };
+    let line = Line {
+        kind: 4,
+        number,
+        detail,
     };
     let mut text = [0u8; 25];
     let n = write_line(&mut text, line);
-    print(writer, &text, n)
+    writer.write_all(text.get(..n).unwrap_or(&[]))
 }
 
 fn main(rt: HostRuntime) -> io::Result<()> {
