@@ -21,7 +21,7 @@ use Rattle.model.proofs.Laws.CutEnds.{established_prepared, second_not_6}
 use Rattle.model.proofs.Laws.Tests.{either_way}
 use Rattle.truncation.specs.Shares.{shares_of}
 use Rattle.model.specs.Answers.{Applied}
-use Rattle.pair.specs.declared.Bonds.{Bonds}
+use Rattle.model.specs.declared.Bonds.{Bonds}
 use Rattle.cutting.specs.Shape.{shape_of, standing, nan_in, Stands}
 use Rattle.cutting.specs.Kept.{KeptOf}
 use Rattle.moves.specs.Ready.{Ready}

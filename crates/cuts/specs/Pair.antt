@@ -11,7 +11,7 @@ use Rattle.model.specs.Cut.{cut_recorded}
 use Rattle.model.specs.Truncation.{workspace}
 use Rattle.model.specs.Slots.{slot_room, slot_of}
 use Rattle.cutting.specs.Shape.{shape_of, room, room_fits}
-use Rattle.pair.specs.declared.Bonds.{Bonds}
+use Rattle.model.specs.declared.Bonds.{Bonds}
 use Rattle.cuts.specs.declared.Slots.{Slots}
 use Rattle.moves.specs.Ready.{Ready, pair_right}
 use Rattle.moves.specs.Steps.{Pair, first_slot, second_slot, second_after}

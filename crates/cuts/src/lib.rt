@@ -17,9 +17,9 @@ ghost use Rattle.cuts.specs.Attempts.{CutOf, Storable, stored_by, prepared_by};
 
 use complex::Complex;
 use cutting::{Decomposed, Kept, decompose, kept_values, store_left, store_right};
-use model::{Applied, Chain, WeightSide};
+use model::{Applied, Bonds, Chain, WeightSide};
 use moves::{establish_center, prepare_center};
-use pair::{Bonds, Neighbours};
+use pair::Neighbours;
 
 // ---- the bonds of a pair, and the tests before a cut
 

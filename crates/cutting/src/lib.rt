@@ -12,8 +12,8 @@ use fills::{
     Columns, Factor, fill_isometry_site_data, fill_scaled_u_site_data, fill_scaled_vt_data,
     fill_vt_site_data,
 };
-use model::{Reason, WeightSide};
-use pair::{Bonds, Neighbours};
+use model::{Bonds, Reason, WeightSide};
+use pair::Neighbours;
 use svd::{sorted_values, svd_jacobi};
 use truncation::{discarded_share, discards_resolvable_weight, truncated_svd_rank};
 

@@ -1,5 +1,5 @@
 -- What a cut keeps of its singular values s, why, and what it records (truncated_svd_rank, discards_resolvable_weight, record_truncation, cut_rank).
-use Rattle.std.specs.Prelude.{ℕ, suc, ◌+◌, ◌-◌, ◌*◌, min, max, Bool, cond, ◌&&◌, ◌||◌, List, [], ◌∷◌, ltb, leb, Float, get_or, length}
+use Rattle.std.specs.Prelude.{ℕ, codes, suc, ◌+◌, ◌-◌, ◌*◌, min, max, Bool, cond, ◌&&◌, ◌||◌, List, [], ◌∷◌, ltb, leb, Float, get_or, length}
 use Rattle.std.specs.Float.{nan, binary64}
 use Rattle.std.specs.Float.Ieee.{add, mul, div, lt, le, of_bits}
 use Rattle.complex.specs.Complex.{zero_f}
@@ -26,6 +26,13 @@ reason_by n cap many = cond (ltb n 1) Floor (cond (ltb cap n) Cap (cond (ltb n m
 
 unfoldable pub rank_reason : Float → ℕ → List Float → Reason
 rank_reason epsilon cap s = reason_by (above_threshold epsilon s) cap (length s)
+
+-- the word that is printed for a reason
+abbrev pub reason_name : Reason → List ℕ
+reason_name Floor = codes "Floor"
+reason_name Cap = codes "Cap"
+reason_name Tolerance = codes "Tolerance"
+reason_name Full = codes "Full"
 
 -- 4 * 2^-52 (SVD_RESOLUTION)
 abbrev pub resolution : Float

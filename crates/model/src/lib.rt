@@ -1,12 +1,17 @@
 // The types of the chain record and of every answer. What the calls do to them is defined in specs/.
 #![tactic(auto)]
 
+ghost use Rattle.std.specs.Prelude.{Some};
+ghost use Rattle.model.specs.Truncation.{reason_name};
+
 use complex::Complex;
+use std::fmt;
 
 // The chain record: settings, bonds of each site, label maps, classical flags, centre, and what the cuts left.
 // The fields are named as in the Rust, which has no bond_discarded. Bonds and labels are bytes: a bond is at most 128, a
 // label below 64. The centre is the site the chain is canonical about, if one is recorded. Entry k of bond_discarded is
-// the weight that the cuts at the bond between sites k and k + 1 discarded.
+// the weight that the cuts at the bond between sites k and k + 1 discarded. Fixed lists with a length beside them: nothing
+// is allocated, and every entry, those past the last site too, is compared with the Rust's.
 #[derive(Clone, Copy)]
 pub struct Chain {
     pub num_qubits: usize,
@@ -23,6 +28,15 @@ pub struct Chain {
     pub bond_high_water: usize,
     pub truncation_discarded: f64,
     pub bond_discarded: [f64; 63],
+}
+
+// The bonds of a pair of neighbours: left of it, between its sites, right of it. The bounds that a contraction needs are
+// facts of pair::Neighbours, since bonds are also read and tested before they are known to be within them.
+#[derive(Clone, Copy)]
+pub struct Bonds {
+    pub left: usize,
+    pub mid: usize,
+    pub right: usize,
 }
 
 // Which site of a pair carries the singular values after a cut.
@@ -42,6 +56,19 @@ pub enum Reason {
     Full,
 }
 
+impl fmt::Display for Reason {
+    ghost output = { λ r. Some (reason_name r) };
+
+    fn fmt<W: fmt::Write>(&self, f: &mut fmt::Formatter<W>) -> fmt::Result {
+        f.write_str(match self {
+            Reason::Floor => "Floor",
+            Reason::Cap => "Cap",
+            Reason::Tolerance => "Tolerance",
+            Reason::Full => "Full",
+        })
+    }
+}
+
 // ---- answers. A refusal is a number: the papers number the refusals, and the number is what is promised and printed.
 
 // What start and reset answer.
@@ -56,7 +83,8 @@ pub type Measured = Result<bool, u8>;
 // What an environment walk answers: the dimension of the environment that it wrote.
 pub type Contracted = Result<usize, u8>;
 
-// What a projection answers: the weight of the kept branch, or nothing where the branch has none.
+// What a projection answers: the weight of the kept branch, or nothing where the branch has none. An enum of its own and
+// not a Result of an Option: the three cases are the form that the buyer names.
 #[derive(Clone, Copy)]
 pub enum Projected {
     Kept(f64),

@@ -8,15 +8,7 @@ ghost use Rattle.model.specs.Pair.{gated_theta, matrix_of, adjoint_of};
 ghost use Rattle.pair.specs.Blocks.{grown, dots_of, mix_of, mixed_of, conjugated, gated_block, stored, line, place_of, element_of};
 
 use complex::{Complex, complex_at, set_complex};
-
-// The bonds of a pair of neighbours: left of it, between its sites, right of it. The bounds that a contraction needs are
-// facts of Neighbours, since bonds are also read and tested before they are known to be within them.
-#[derive(Clone, Copy)]
-pub struct Bonds {
-    pub left: usize,
-    pub mid: usize,
-    pub right: usize,
-}
+use model::Bonds;
 
 // The elements (i, j) = (0, 0), (0, 1), (1, 0) and (1, 1) of one a and one b.
 #[derive(Clone, Copy)]
