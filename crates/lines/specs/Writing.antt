@@ -1,5 +1,5 @@
 -- Writing a text byte by byte: `sets l i vs` is l with vs stored from the index i on. Laws alone.
-use Rattle.std.specs.Prelude.{◌≡◌, refl, Bool, cond, List, [], ◌∷◌, ◌++◌, ℕ, suc, ◌+◌, ◌/◌, ◌%◌, ◌≤◌, ◌<◌, ltb, Float, drop, set}
+use Rattle.std.specs.Prelude.{◌≡◌, refl, Bool, cond, List, [], ◌∷◌, ◌++◌, ℕ, suc, ◌+◌, ◌/◌, ◌%◌, ◌≤◌, ◌<◌, ltb, Float, drop, take, set}
 use Rattle.std.proofs.Math.Path.{sym}
 use Rattle.std.proofs.Common.{ap, ◌∙◌, le_trans, add-zero, zero-add, add-suc, suc-add, length-append}
 use Rattle.std.proofs.Math.Bool.{true, false}
@@ -9,6 +9,7 @@ use borrow.Author.Tests.{lt-ltb, le-ltb}
 use Rattle.std.specs.Float.{binary64}
 use Rattle.std.specs.Float.Ieee.{to_bits}
 use Rattle.std.proofs.Math.ListN.{length}
+use Rattle.std.proofs.Math.Seq.{take-append_seam}
 use Rattle.std.proofs.lemmas.List.Edits.{sets, sets-eq}
 use Rattle.complex.specs.Loops.{tabulate, length_tabulate}
 use Rattle.lines.specs.declared.Detail.{Detail}
@@ -147,3 +148,13 @@ wrote_line l line a b d r s u h f g k =
 pub no_room : (l : List ℕ) (line : Line) → length l < line_room → (l ≡ written line l) × (0 ≡ written_length line l)
 unfolding written written_length
 no_room l line h = rw (lt-ltb (length l) line_room h) (refl, refl)
+
+-- in a slice with room, what is written is within it, and stands at its front
+pub written_front : (l : List ℕ) (line : Line) → line_room ≤ length l
+    → (written_length line l ≤ length (written line l)) × (written_length line l ≡ length (take (written_length line l) (written line l))) × (take (written_length line l) (written line l) ≡ line_text line)
+unfolding written written_length
+written_front l line h =
+    let text = line_text line in
+    let rest = drop (length text) l in
+    let front = take-append_seam text rest in
+    rw (le-ltb (length l) line_room h) (omega (arith, length-append text rest), sym (ap length front), front)

@@ -1,11 +1,14 @@
 // The line that is printed for a run record: its kind, the refusal number or 0, and what an accepted call answered.
 #![tactic(auto)]
 
-ghost use Rattle.std.specs.Prelude.{◌≡◌, ◌+◌, ◌≤◌, ◌<◌, length};
+ghost use Rattle.std.specs.Prelude.{◌≡◌, ◌+◌, ◌≤◌, ◌<◌, length, OnOk};
+ghost use Rattle.std.specs.Io.KnownBytes.{Appends};
 ghost use Rattle.std.proofs.lemmas.List.Edits.{sets};
-ghost use Rattle.lines.specs.Text.{decimal, bit_digit, hex_digit, hex_text, detail_text, written, written_length};
+ghost use Rattle.lines.specs.Text.{decimal, bit_digit, hex_digit, hex_text, detail_text, line_text, written, written_length};
 
 use bytes_le::to_bits;
+use std::io;
+use std::io::Write;
 
 // What follows the two numbers. A projection's weight is printed by its bits, and that it found nothing as zeros.
 #[derive(Clone, Copy)]
@@ -16,11 +19,21 @@ pub enum Detail {
     Bit(bool),
 }
 
+// The kind and the refusal's number stay numbers, 0 where there is none, since they are what is printed.
 #[derive(Clone, Copy)]
 pub struct Line {
     pub kind: u8,
     pub number: u8,
     pub detail: Detail,
+}
+
+impl Line {
+    // Reading stops here.
+    pub const STOP: Line = Line {
+        kind: 0,
+        number: 8,
+        detail: Detail::Empty,
+    };
 }
 
 // x in decimal from the index `at` on. The index behind it is returned, here and below. By hand, here and below: `write!`
@@ -119,4 +132,14 @@ pub fn write_line(out: &mut [u8], line: Line) -> usize
     let end = put_detail(out, rest, detail);
     out[end] = b'\n';
     end + 1
+}
+
+// The line to a writer.
+#[tactic(auto, using(crate::specs::Writing::written_front))]
+pub fn print_line<W: Write>(writer: &mut W, line: Line) -> io::Result<()>
+    ensures { OnOk result (Appends (W.contents writer.old) (W.contents writer.new) (line_text line)) }
+{
+    let mut text = [0u8; 25];
+    let n = write_line(&mut text, line);
+    writer.write_all(&text[..n])
 }

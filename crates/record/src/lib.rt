@@ -51,7 +51,8 @@ pub enum Record {
 
 // ---- lengths
 
-// How many bytes a record's body has, by its kind; 0 for what is no kind.
+// How many bytes a record's body has, by its kind; 0 for what is no kind. A number and no Option, as the table of lengths in
+// docs/RUN-RECORD.md has it: a caller only adds to it or compares it.
 #[tactic(auto, using(crate::specs::Layout::no_layout), unfolding(crate::specs::Layout::body_size))]
 pub fn body_size(kind: u16) -> usize
     ensures { result ≡ body_size kind }
@@ -75,7 +76,8 @@ fn has_length(size: usize) -> bool
     matches!(size, 21 | 260 | 5 | 4 | 12 | 11)
 }
 
-// How many bytes follow the two of the length; 0 if no record has that length.
+// How many bytes follow the two of the length; 0 if no record has that length. A number and no Option: a record of no length
+// is whole at once, and its two bytes are then turned away.
 #[tactic(auto, using(bytes_le::proofs::Value::value_two), unfolding(crate::specs::Layout::more_bytes))]
 pub fn more_bytes(low: u8, high: u8) -> usize
     ensures { result ≡ more_bytes (value (low ∷ high ∷ [])) }

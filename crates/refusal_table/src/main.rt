@@ -4,7 +4,7 @@
 
 use chain::{apply_named_gate, measure, start};
 use gates::NamedGate;
-use lines::{Detail, Line, write_line};
+use lines::{Detail, Line, print_line};
 use model::Chain;
 use record::read_record;
 use std::io;
@@ -65,8 +65,8 @@ fn above_workspace(store: &mut [f64], work: &mut [f64]) -> u8 {
 
 // The first amplitude becomes a NaN.
 fn spoil(store: &mut [f64]) {
-    if store.len() > 0 {
-        store[0] = 0.0 / 0.0;
+    if let Some(first) = store.first_mut() {
+        *first = f64::NAN;
     }
 }
 
@@ -87,16 +87,14 @@ fn unknown_kind() -> u8 {
 }
 
 fn show<W: Write>(writer: &mut W, kind: u8, number: u8) -> io::Result<()> {
-    let mut out = [0u8; 32];
-    let n = write_line(
-        &mut out,
+    print_line(
+        writer,
         Line {
             kind,
             number,
             detail: Detail::Empty,
         },
-    );
-    writer.write_all(out.get(..n).unwrap_or(&[]))
+    )
 }
 
 fn main(rt: HostRuntime) -> io::Result<()> {

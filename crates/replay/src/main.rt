@@ -5,7 +5,7 @@
 
 ghost use Rattle.std.specs.Prelude.{◌≤◌, ◌<◌, length, IfOk};
 
-use lines::{Line, write_line};
+use lines::{Line, print_line};
 use record::more_bytes;
 use session::{Session, new_session, step};
 use state_text::write_state;
@@ -13,12 +13,6 @@ use std::io;
 use std::io::{Read, Write};
 
 // ---- records
-
-fn write_answer<W: Write>(writer: &mut W, line: Line) -> io::Result<()> {
-    let mut text = [0u8; 32];
-    let n = write_line(&mut text, line);
-    writer.write_all(text.get(..n).unwrap_or(&[]))
-}
 
 // Where the record behind the one at an index begins, or the stream's end.
 fn next(bytes: &[u8], at: usize) -> usize
@@ -45,8 +39,8 @@ fn replay_record<W: Write>(
 ) -> io::Result<Option<Session>> {
     let stepped = step(session, store, work, bytes);
     let session = stepped.session;
-    write_answer(writer, stepped.line)?;
-    if stepped.line.number == 8 {
+    print_line(writer, stepped.line)?;
+    if stepped.line.number == Line::STOP.number {
         return Ok(None);
     }
     if session.started {

@@ -54,7 +54,7 @@ fn digits(d: u64, mut q: u64, mut r: u64) -> Found
         let t = 4 * r + (s >> 62);
         let c = 4 * q + 1;
         let b = (t >= c) as u64;
-        s = s << 2;
+        s <<= 2;
         q = 2 * q + b;
         r = t - b * c;
     }
@@ -254,9 +254,7 @@ fn excess(a: Complex, g: f64) -> f64 {
     let y = upper_half(a.im);
     let s = x * x;
     let t = y * y;
-    let larger = if s < t { t } else { s };
-    let smaller = if s < t { s } else { t };
-    larger - g * g + smaller + ((a.re - x) * (a.re + x) + (a.im - y) * (a.im + y))
+    s.max(t) - g * g + s.min(t) + ((a.re - x) * (a.re + x) + (a.im - y) * (a.im + y))
 }
 
 fn norm_guess(a: Complex) -> f64 {

@@ -35,7 +35,7 @@ pub fn new_session() -> Session
     let chain = refused.chain;
     Session {
         started: false,
-        chain: chain,
+        chain,
     }
 }
 
@@ -83,14 +83,11 @@ fn left_by(kind: u8, started: bool, chain: Chain, said: Result<Detail, u8>) -> S
         Err(number) => (number, Detail::Empty),
     };
     Stepped {
-        session: Session {
-            started: started,
-            chain: chain,
-        },
+        session: Session { started, chain },
         line: Line {
-            kind: kind,
-            number: number,
-            detail: detail,
+            kind,
+            number,
+            detail,
         },
     }
 }
@@ -148,12 +145,8 @@ fn turned_away(session: Session) -> Stepped
     ensures line_value { result.line ≡ stop_line }
 {
     Stepped {
-        session: session,
-        line: Line {
-            kind: 0,
-            number: 8,
-            detail: Detail::Empty,
-        },
+        session,
+        line: Line::STOP,
     }
 }
 

@@ -104,7 +104,7 @@ fn write_environments<W: Write>(
     if n == 0 {
         return Ok(());
     }
-    for site in 0..n.min(64) + 1 {
+    for site in 0..=n.min(64) {
         if let Ok(dim) = left_environment(*chain, store, work, out, 0, site) {
             write!(writer, "# left 0 {site} :")?;
             write_numbers(writer, part(out, 0, 2 * square(dim)))?;

@@ -6,11 +6,12 @@ ghost use Rattle.std.specs.Prelude.{◌+◌, ◌≤◌, ◌<◌, true, ◌≡◌
 ghost use Rattle.record.specs.Frames.{whole};
 ghost use Rattle.stream.specs.Feeding.{can_take, if_whole, before, after, fed, new_run, ending, ended};
 
-use lines::{Detail, Line, write_line};
+use lines::{Line, write_line};
 use record::more_bytes;
 use session::{Session, new_session, step};
 
-// A run between two pieces: the session, how many bytes of a record are there, and whether reading has stopped.
+// A run between two pieces: the session, how many bytes of a record are there, and whether reading has stopped. A flag
+// and not an Option: a session stands after the stop too, and what is promised speaks of it.
 #[derive(Clone, Copy)]
 pub struct Run {
     pub session: Session,
@@ -118,12 +119,5 @@ pub fn end(run: Run, text: &mut [u8]) -> usize
     if run.stopped || run.pending == 0 {
         return 0;
     }
-    write_line(
-        text,
-        Line {
-            kind: 0,
-            number: 8,
-            detail: Detail::Empty,
-        },
-    )
+    write_line(text, Line::STOP)
 }

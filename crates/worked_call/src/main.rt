@@ -5,8 +5,8 @@
 use chain::{apply_gate, apply_named_gate, project, start};
 use complex::Complex;
 use gates::NamedGate;
-use lines::{Detail, Line, write_line};
-use model::{Applied, Gated, Projected, Reason};
+use lines::{Detail, Line, print_line};
+use model::{Applied, Gated, Projected};
 use std::io;
 use std::io::Write;
 
@@ -27,14 +27,10 @@ fn bell_pair(store: &mut [f64], work: &mut [f64]) -> Gated {
 
 // Why the bond that a gate left is as wide as it is.
 fn show_reason<W: Write>(writer: &mut W, answer: Applied) -> io::Result<()> {
-    let word: &[u8] = match answer {
-        Ok(Reason::Floor) => b"Floor\n",
-        Ok(Reason::Cap) => b"Cap\n",
-        Ok(Reason::Tolerance) => b"Tolerance\n",
-        Ok(Reason::Full) => b"Full\n",
-        Err(_) => b"refused\n",
-    };
-    writer.write_all(word)
+    match answer {
+        Ok(reason) => writeln!(writer, "{reason}"),
+        Err(_) => writer.write_all(b"refused\n"),
+    }
 }
 
 // What the projection answered, as a line.
@@ -44,14 +40,14 @@ fn show<W: Write>(writer: &mut W, answer: Projected) -> io::Result<()> {
         Projected::Nothing => (0, Detail::Nothing),
         Projected::Refused(number) => (number, Detail::Empty),
     };
-    let line = Line {
-        kind: 4,
-        number,
-        detail,
-    };
-    let mut text = [0u8; 25];
-    let n = write_line(&mut text, line);
-    writer.write_all(text.get(..n).unwrap_or(&[]))
+    print_line(
+        writer,
+        Line {
+            kind: 4,
+            number,
+            detail,
+        },
+    )
 }
 
 fn main(rt: HostRuntime) -> io::Result<()> {
