@@ -1,13 +1,15 @@
 -- What the program prints, whatever it reads from and writes to.
-use Rattle.std.specs.Prelude.{ℕ, ◌*◌, ◌-◌, ◌^◌, ◌≤◌, ◌<◌, ◌≡◌, false, List, [], ◌++◌, length, Some, IfSome, option_map, unwrap_or}
+use Rattle.std.specs.Prelude.{ℕ, ◌-◌, ◌^◌, ◌<◌, ◌≡◌, false, List, [], ◌++◌, length, Some, IfSome, option_map, unwrap_or}
 use Rattle.std.specs.Io.KnownBytes.{Appends}
 use Rattle.std.specs.declared.option.Option.{Option}
+use Rattle.stream.specs.declared.Run.{Run}
 use Rattle.stream.specs.Output.{text_of}
-use Rattle.stream.specs.Feeding.{Feeding, to_come, Underway}
+use Rattle.stream.specs.Feeding.{Feeding, before, to_come, Underway}
+use Rattle.chainrun.specs.declared.memory.Memory.{Memory}
 
--- lent slices that are long enough: for the longest record, for a byte of the input, and for a line, 25 bytes, for each byte of a piece
-abbrev pub HaveRoom : List ℕ → List ℕ → List ℕ → Type 0
-HaveRoom bytes piece text = (262 ≤ length bytes) × (0 < length piece) × (25 * length piece ≤ length text)
+-- a run, with the memory that it is lent
+abbrev pub in_memory : Run → Memory → Feeding
+in_memory run m = before run m.store.now m.work.now m.bytes.now m.text.now
 
 -- a turn where `input` was still to be read. What it printed, and what is to come of the rest, is what was to come of the input. Where no other turn is to follow nothing is to come, and after the line `0 8` none is to follow
 pub record Turn (f : Feeding) (next : Option Feeding) (input : List ℕ) (left old new : Option (List ℕ)) : Type 0 where

@@ -5,9 +5,12 @@
 ghost use Rattle.std.specs.Prelude.{◌≤◌, ◌≡◌, length, take, IfOk, OnOk, IfSome, option_map};
 ghost use Rattle.std.specs.Io.KnownBytes.{ReadConsumes, Appends};
 ghost use Rattle.stream.specs.Output.{new_store, new_work};
-ghost use Rattle.stream.specs.Feeding.{before, Underway, ended};
-ghost use Rattle.chainrun.specs.Program.{HaveRoom, Turn, Prints};
+ghost use Rattle.stream.specs.Feeding.{Underway, ended};
+ghost use Rattle.chainrun.specs.Program.{in_memory, Turn, Prints};
 
+mod memory;
+
+use memory::Memory;
 use std::io;
 use std::io::{Read, Write};
 use stream::{Run, end, feed, new_run};
@@ -38,21 +41,21 @@ fn print_end<W: Write>(writer: &mut W, run: Run, text: &mut [u8]) -> io::Result<
     print_front(writer, text, n)
 }
 
-// One piece: read, fed, and its lines printed. `bytes` holds the record in progress. The answer is the run that goes on;
-// none where the input has ended or reading stops. The slices are no struct: tried, and the proof didn't close, since the
-// borrow checker's part of it doesn't cover a call that is lent several fields from behind one reference.
+// One piece: read, fed, and its lines printed. The answer is the run that goes on; none where the input has ended or
+// reading stops.
 fn turn<R: Read, W: Write>(
     reader: &mut R,
     writer: &mut W,
     run: Run,
-    store: &mut [f64],
-    work: &mut [f64],
-    bytes: &mut [u8],
-    piece: &mut [u8],
-    text: &mut [u8],
+    memory: &mut Memory,
 ) -> io::Result<Option<Run>>
-    ensures { IfOk result (λ next. HaveRoom bytes.old piece.old text.old → Underway (before run store.old work.old bytes.old text.old) → IfSome (R.remaining reader.old) (λ input. Turn (before run store.old work.old bytes.old text.old) (option_map (λ after. before after store.new work.new bytes.new text.new) next) input (R.remaining reader.new) (W.contents writer.old) (W.contents writer.new))) }
+    ensures { IfOk result (λ next. Underway (in_memory run memory.old) → IfSome (R.remaining reader.old) (λ input. Turn (in_memory run memory.old) (option_map (λ after. in_memory after memory.new) next) input (R.remaining reader.new) (W.contents writer.old) (W.contents writer.new))) }
 {
+    let store = &mut *memory.store;
+    let work = &mut *memory.work;
+    let bytes = &mut *memory.bytes;
+    let piece = &mut *memory.piece;
+    let text = &mut *memory.text;
     let got = read_piece(reader, piece)?;
     if got == 0 {
         print_end(writer, run, text)?;
@@ -66,22 +69,14 @@ fn turn<R: Read, W: Write>(
 // The whole run: what it prints is the text of its input, however that comes in pieces. A proved loop has to end, and
 // nothing says that the input does. So the turns are counted, up to a number that no run uses up. The store and the work
 // slice are those of which `lines_of` of stream speaks.
-fn run_all<R: Read, W: Write>(
-    reader: &mut R,
-    writer: &mut W,
-    store: &mut [f64],
-    work: &mut [f64],
-    bytes: &mut [u8],
-    piece: &mut [u8],
-    text: &mut [u8],
-) -> io::Result<()>
-    requires store_value { store.old ≡ new_store }
-    requires work_value { work.old ≡ new_work }
-    ensures { OnOk result (HaveRoom bytes.old piece.old text.old → Prints (R.remaining reader.old) (W.contents writer.old) (W.contents writer.new)) }
+fn run_all<R: Read, W: Write>(reader: &mut R, writer: &mut W, memory: &mut Memory) -> io::Result<()>
+    requires store_value { memory.old.store.now ≡ new_store }
+    requires work_value { memory.old.work.now ≡ new_work }
+    ensures { OnOk result (Prints (R.remaining reader.old) (W.contents writer.old) (W.contents writer.new)) }
 {
     let mut run = new_run();
     for _ in 0..u64::MAX {
-        let Some(after) = turn(reader, writer, run, store, work, bytes, piece, text)? else {
+        let Some(after) = turn(reader, writer, run, memory)? else {
             return Ok(());
         };
         run = after;
@@ -98,13 +93,12 @@ fn main(rt: HostRuntime) -> io::Result<()> {
     let mut bytes = [0u8; 262];
     let mut piece = [0u8; 1024];
     let mut text = [0u8; 25600];
-    run_all(
-        &mut reader,
-        &mut writer,
-        &mut store,
-        &mut work,
-        &mut bytes,
-        &mut piece,
-        &mut text,
-    )
+    let mut memory = Memory {
+        store: &mut store,
+        work: &mut work,
+        bytes: &mut bytes,
+        piece: &mut piece,
+        text: &mut text,
+    };
+    run_all(&mut reader, &mut writer, &mut memory)
 }
