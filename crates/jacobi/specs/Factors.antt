@@ -31,5 +31,5 @@ pub record Turns (t : Turn) (r : Rotation) : Type 0 where
   pub on_p : (x y : Complex) → turned_p t x y ≡ rotated_p r x y
   pub on_q : (x y : Complex) → turned_q t x y ≡ rotated_q r x y
 
-abbrev pub turned_pair : Turn → ℕ → ℕ → List Float → List Float
+unfoldable pub turned_pair : Turn → ℕ → ℕ → List Float → List Float
 turned_pair t i j w = store (store w i (turned_p t (at w i) (at w j))) j (turned_q t (at w i) (at w j))

@@ -77,6 +77,7 @@ struct Factor {
 impl Factor {
     // The factor a. Where its real part is the NaN, so is every part of every product, and each part may be it. But for this
     // case the compiler would see the negation and undo it.
+    #[tactic(auto, using(crate::proofs::Signs::negated_acts, crate::proofs::Signs::nan_acts))]
     fn of(a: Complex) -> Factor
         ensures { Acts result a }
     {
@@ -145,6 +146,7 @@ impl Turn {
 }
 
 // Numbers i and j, rotated.
+#[tactic(auto, unfolding(crate::specs::Factors::turned_pair))]
 fn rotate_pair(w: &mut [f64], i: usize, j: usize, t: Turn)
     requires { (i < count w.old) × (j < count w.old) }
     ensures { w.new ≡ turned_pair t i j w.old }
@@ -156,6 +158,7 @@ fn rotate_pair(w: &mut [f64], i: usize, j: usize, t: Turn)
 }
 
 // Columns p and q, rotated, of the matrix of m rows that stands from base on.
+#[tactic(auto, using(complex::specs::Loops::each_none, complex::specs::Loops::each_more, crate::proofs::Turns::turned_rotated), unfolding(model::specs::Jacobi::rotated))]
 fn rotate(w: &mut [f64], base: usize, m: usize, p: usize, q: usize, t: Rotation)
     requires { (p < q) × (base + (q * m + m) ≤ count w.old) }
     ensures { w.new ≡ jacobi.rotated t base m p q w.old }
@@ -166,54 +169,65 @@ fn rotate(w: &mut [f64], base: usize, m: usize, p: usize, q: usize, t: Rotation)
     }
 }
 
-// Columns p and q of both matrices, rotated unless they are skipped. Answers whether they were rotated.
-fn pair_step(w: &mut [f64], high: usize, wide: usize, p: usize, q: usize) -> bool
-    requires { (p < q) × (q < wide) × (wide * high + wide * wide ≤ count w.old) }
-    ensures { (before : Bool) → jacobi.swept (before || result) w.new ≡ jacobi.pair_step high wide p q (jacobi.swept before w.old) }
-{
-    let g = gram(w, high, p, q);
-    if skipped(g) {
-        return false;
-    }
-    let t = rotation(g);
-    rotate(w, 0, high, p, q, t);
-    rotate(w, wide * high, wide, p, q, t);
-    true
+// The sizes of a matrix of `high` rows and `wide` columns with its rotations, and how many numbers the two have.
+#[derive(Clone, Copy)]
+pub struct Sizes {
+    pub high: usize,
+    pub wide: usize,
+    pub len: usize,
+    pub ghost whole: { len ≡ wide * high + wide * wide },
 }
 
-// Column p with each column after it. Answers whether a pair was rotated.
-fn row_of_pairs(w: &mut [f64], high: usize, wide: usize, p: usize) -> bool
-    requires { (p < wide) × (wide * high + wide * wide ≤ count w.old) }
-    ensures { (before : Bool) → jacobi.swept (before || result) w.new ≡ jacobi.row_of_pairs high wide p (jacobi.swept before w.old) }
-{
-    let mut rotated = false;
-    for q in p + 1..wide {
-        rotated |= pair_step(w, high, wide, p, q);
+impl Sizes {
+    // Columns p and q of both matrices, rotated unless they are skipped. Answers whether they were rotated.
+    fn pair_step(self, w: &mut [f64], p: usize, q: usize) -> bool
+        requires { (p < q) × (q < self.wide) × (self.len ≤ count w.old) }
+        ensures { (before : Bool) → jacobi.swept (before || result) w.new ≡ jacobi.pair_step self.high self.wide p q (jacobi.swept before w.old) }
+    {
+        let g = gram(w, self.high, p, q);
+        if skipped(g) {
+            return false;
+        }
+        let t = rotation(g);
+        rotate(w, 0, self.high, p, q, t);
+        rotate(w, self.wide * self.high, self.wide, p, q, t);
+        true
     }
-    rotated
-}
 
-// Every pair of columns once. Answers whether one was rotated.
-fn sweep(w: &mut [f64], high: usize, wide: usize) -> bool
-    requires { wide * high + wide * wide ≤ count w.old }
-    ensures { jacobi.swept result w.new ≡ jacobi.sweep high wide w.old }
-{
-    let mut rotated = false;
-    for p in 0..wide {
-        rotated |= row_of_pairs(w, high, wide, p);
+    // Column p with each column after it. Answers whether a pair was rotated.
+    fn row_of_pairs(self, w: &mut [f64], p: usize) -> bool
+        requires { (p < self.wide) × (self.len ≤ count w.old) }
+        ensures { (before : Bool) → jacobi.swept (before || result) w.new ≡ jacobi.row_of_pairs self.high self.wide p (jacobi.swept before w.old) }
+    {
+        let mut rotated = false;
+        for q in p + 1..self.wide {
+            rotated |= self.pair_step(w, p, q);
+        }
+        rotated
     }
-    rotated
-}
 
-// At most 100 sweeps; one without a rotation is the last.
-#[tactic(auto, using(crate::proofs::Turns::sweeps_done, crate::proofs::Turns::sweeps_on))]
-pub fn sweeps(w: &mut [f64], high: usize, wide: usize)
-    requires { wide * high + wide * wide ≤ count w.old }
-    ensures { w.new ≡ jacobi.sweeps high wide 100 w.old }
-{
-    for k in 0..MAX_SVD_SWEEPS {
-        if !sweep(w, high, wide) {
-            return;
+    // Every pair of columns once. Answers whether one was rotated.
+    fn sweep(self, w: &mut [f64]) -> bool
+        requires { self.len ≤ count w.old }
+        ensures { jacobi.swept result w.new ≡ jacobi.sweep self.high self.wide w.old }
+    {
+        let mut rotated = false;
+        for p in 0..self.wide {
+            rotated |= self.row_of_pairs(w, p);
+        }
+        rotated
+    }
+
+    // At most 100 sweeps; one without a rotation is the last.
+    #[tactic(auto, using(crate::proofs::Turns::sweeps_done, crate::proofs::Turns::sweeps_turn))]
+    pub fn sweeps(self, w: &mut [f64])
+        requires { self.len ≤ count w.old }
+        ensures { w.new ≡ jacobi.sweeps self.high self.wide 100 w.old }
+    {
+        for k in 0..MAX_SVD_SWEEPS {
+            if !self.sweep(w) {
+                return;
+            }
         }
     }
 }

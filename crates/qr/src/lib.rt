@@ -1,8 +1,7 @@
 // The thin QR factoring of a gauge move, by modified Gram-Schmidt with reorthogonalisation, in place. The slice holds, in
 // numbers, a matrix of `high` rows and `wide` columns, by columns, from 0 on, whose first columns become q; and r, by rows,
-// from wide * high on. The sizes are passed as numbers, since the definitions take them so: a struct makes no contract
-// shorter.
-#![tactic(auto, using(complex::specs::Loops::each_none, complex::specs::Loops::each_more, complex::specs::Loops::between_none, complex::specs::Loops::between_more), unfolding(model::specs::Qr::term, model::specs::Qr::dot, model::specs::Qr::taken_away, model::specs::Qr::projected_on, model::specs::Qr::pass_of, model::specs::Qr::kept_of, model::specs::Qr::raised))]
+// from wide * high on.
+#![tactic(auto, using(complex::specs::Loops::each_none, complex::specs::Loops::each_more, complex::specs::Loops::between_none, complex::specs::Loops::between_more), unfolding(model::specs::Qr::term, model::specs::Qr::taken_away, model::specs::Qr::projected_on, model::specs::Qr::pass_of, model::specs::Qr::kept_of, model::specs::Qr::raised))]
 
 ghost use Rattle.std.specs.Prelude.{◌≡◌, ◌+◌, ◌*◌, ◌<◌, ◌≤◌, [], ◌∷◌, min, max, length, take};
 ghost use Rattle.complex.specs.Loops.{between};
@@ -82,77 +81,99 @@ fn take_away(w: &mut [f64], from: usize, to: usize, n: usize, d: Complex)
     }
 }
 
-// Column j's part along column i of q is taken from it, and added to r's entry (i, j).
-fn project_on(w: &mut [f64], high: usize, wide: usize, cap: usize, j: usize, i: usize)
-    requires { (i < cap) × (cap ≤ wide) × (j < wide) × (wide * high + cap * wide ≤ count w.old) }
-    ensures { w.new ≡ qr.projected_on high wide j i w.old }
-{
-    let d = dot(w, i * high, j * high, high);
-    take_away(w, i * high, j * high, high, d);
-    let entry = wide * high + (i * wide + j);
-    set_complex(w, entry, complex_at(w, entry) + d);
-}
-
-// One pass along each of the columns kept; the residual is the norm of what is left.
-fn one_pass(w: &mut [f64], high: usize, wide: usize, cap: usize, rank: usize, j: usize) -> f64
-    requires { (rank ≤ cap) × (cap ≤ wide) × (j < wide) × (wide * high + cap * wide ≤ count w.old) }
-    ensures { qr.passed result w.new ≡ qr.pass_of high wide rank j w.old }
-{
-    for i in 0..rank {
-        project_on(w, high, wide, cap, j, i);
-    }
-    l2_norm(w, j * high, high)
-}
-
-// Column j is kept as column `rank` of q if there is room and enough of it is left. Answers how many are kept.
-fn keep(
-    w: &mut [f64],
+// The sizes of a matrix of `high` rows and `wide` columns and of r behind it, which has `cap` rows, as q has columns at most;
+// and how many numbers the two have.
+#[derive(Clone, Copy)]
+struct ThinQr {
     high: usize,
     wide: usize,
     cap: usize,
-    j: usize,
-    norm: f64,
-    rank: usize,
-    residual: f64,
-) -> usize
-    requires { (rank ≤ cap) × (cap ≤ wide) × (j < wide) × (wide * high + cap * wide ≤ count w.old) }
-    ensures w_after { qr.kept result w.new ≡ qr.kept_of high wide cap j norm rank (qr.passed residual w.old) }
-    ensures upper_bound { result ≤ cap }
-{
-    if rank >= cap {
-        return rank;
-    }
-    if residual > QR_RANK_REL_TOL * norm {
-        scale_to(w, j * high, rank * high, high, 1.0 / residual);
-        let entry = wide * high + (rank * wide + j);
-        set_complex(w, entry, Complex::from(residual));
-        return rank + 1;
-    }
-    rank
+    len: usize,
+    ghost some: { (0 < high) × (0 < wide) },
+    ghost few: { cap ≡ min high wide },
+    ghost whole: { len ≡ wide * high + cap * wide },
 }
 
-// Where no column is kept, q becomes (1, 0, ..), and r stays 0.
-fn raise(w: &mut [f64], high: usize, rank: usize) -> usize
-    requires { (0 < high) × (high ≤ count w.old) }
-    ensures w_after { qr.kept result w.new ≡ qr.raised high (qr.kept rank w.old) }
-    ensures value { result ≡ max rank 1 }
-{
-    if rank == 0 {
-        zero_run(w, 0, high);
-        set_complex(w, 0, Complex::from(1.0));
-        return 1;
+impl ThinQr {
+    // Where r's entry (i, j) stands.
+    fn entry(self, i: usize, j: usize) -> usize
+        requires { (i < self.cap) × (j < self.wide) }
+        ensures value { result ≡ qr.entry_at self.high self.wide i j }
+        ensures upper_bound { result < self.len }
+    {
+        self.wide * self.high + (i * self.wide + j)
     }
-    rank
+
+    // Column j's part along column i of q is taken from it, and added to r's entry (i, j).
+    fn project_on(self, w: &mut [f64], j: usize, i: usize)
+        requires { (i < self.cap) × (j < self.wide) × (self.len ≤ count w.old) }
+        ensures { w.new ≡ qr.projected_on self.high self.wide j i w.old }
+    {
+        let d = dot(w, i * self.high, j * self.high, self.high);
+        take_away(w, i * self.high, j * self.high, self.high, d);
+        let entry = self.entry(i, j);
+        set_complex(w, entry, complex_at(w, entry) + d);
+    }
+
+    // One pass along each of the columns kept; the residual is the norm of what is left.
+    fn one_pass(self, w: &mut [f64], rank: usize, j: usize) -> f64
+        requires { (rank ≤ self.cap) × (j < self.wide) × (self.len ≤ count w.old) }
+        ensures { qr.passed result w.new ≡ qr.pass_of self.high self.wide rank j w.old }
+    {
+        for i in 0..rank {
+            self.project_on(w, j, i);
+        }
+        l2_norm(w, j * self.high, self.high)
+    }
+
+    // Column j is kept as column `rank` of q if there is room and enough of it is left. Answers how many are kept.
+    fn keep(self, w: &mut [f64], j: usize, norm: f64, rank: usize, residual: f64) -> usize
+        requires { (rank ≤ self.cap) × (j < self.wide) × (self.len ≤ count w.old) }
+        ensures w_after { qr.kept result w.new ≡ qr.kept_of self.high self.wide self.cap j norm rank (qr.passed residual w.old) }
+        ensures upper_bound { result ≤ self.cap }
+    {
+        if rank >= self.cap {
+            return rank;
+        }
+        if residual > QR_RANK_REL_TOL * norm {
+            let high = self.high;
+            scale_to(w, j * high, rank * high, high, 1.0 / residual);
+            set_complex(w, self.entry(rank, j), Complex::from(residual));
+            return rank + 1;
+        }
+        rank
+    }
+
+    // Where no column is kept, q becomes (1, 0, ..), and r stays 0.
+    fn raise(self, w: &mut [f64], rank: usize) -> usize
+        requires { self.len ≤ count w.old }
+        ensures w_after { qr.kept result w.new ≡ qr.raised self.high (qr.kept rank w.old) }
+        ensures value { result ≡ max rank 1 }
+    {
+        if rank == 0 {
+            zero_run(w, 0, self.high);
+            set_complex(w, 0, Complex::from(1.0));
+            return 1;
+        }
+        rank
+    }
 }
 
 // The factoring of the matrix that w begins with; the rest of w is room for r. Answers how many columns q has. A column's
 // passes are a loop that breaks with the residual, which is a rule of the project (tests/checks.py).
+#[tactic(auto, using(complex::specs::Loops::each_none, complex::specs::Loops::each_more, crate::proofs::Passes::passes_done, crate::proofs::Passes::passes_turn), unfolding(model::specs::Qr::column_of, model::specs::Qr::qr))]
 pub fn factorize_gram_schmidt(w: &mut [f64], high: usize, wide: usize) -> usize
     requires { (0 < high) × (0 < wide) × (length w.old ≡ 2 * (wide * high + min high wide * wide)) }
     ensures w_after { qr.kept result w.new ≡ qr.qr high wide (take (2 * (wide * high)) w.old) }
     ensures result_nonzero { (0 < result) × (result ≤ min high wide) }
 {
     let cap = high.min(wide);
+    let thin = ThinQr {
+        high,
+        wide,
+        cap,
+        len: wide * high + cap * wide,
+    };
     clear_from(w, 2 * (wide * high));
     let mut rank = 0usize;
     for j in 0..wide {
@@ -160,17 +181,14 @@ pub fn factorize_gram_schmidt(w: &mut [f64], high: usize, wide: usize) -> usize
         let mut previous = norm;
         let mut pass = 0usize;
         let residual = loop {
-            let r = one_pass(w, high, wide, cap, rank, j);
+            let r = thin.one_pass(w, rank, j);
             pass += 1;
-            if r > QR_PASS_RETAIN * previous {
-                break r;
-            }
-            if pass == QR_MAX_PASSES {
+            if r > QR_PASS_RETAIN * previous || pass == QR_MAX_PASSES {
                 break r;
             }
             previous = r;
         };
-        rank = keep(w, high, wide, cap, j, norm, rank, residual);
+        rank = thin.keep(w, j, norm, rank, residual);
     }
-    raise(w, high, rank)
+    thin.raise(w, rank)
 }

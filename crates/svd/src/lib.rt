@@ -10,7 +10,7 @@ ghost use Rattle.svd.specs.Order.{Below};
 
 use columns::{clear_from, l2_norm, scale_to, zero_run};
 use complex::{Complex, complex_at, set_complex};
-use jacobi::sweeps;
+use jacobi::Sizes;
 
 // 1 on the diagonal of the n by n matrix from base on.
 fn set_diagonal(w: &mut [f64], base: usize, n: usize)
@@ -121,15 +121,19 @@ pub fn svd_jacobi(w: &mut [f64], high: usize, wide: usize, clamp: f64) -> Option
     ensures order_value { IfSome result (λ order. order ≡ order_of wide (λ k. (at w.new (values_at high wide + k)).re)) }
 {
     let matrix = wide * high;
+    let s = Sizes {
+        high,
+        wide,
+        len: matrix + wide * wide,
+    };
     clear_from(w, 2 * matrix);
     set_diagonal(w, matrix, wide);
-    sweeps(w, high, wide);
+    s.sweeps(w);
     normalise_columns(w, high, wide, clamp);
-    let base = matrix + wide * wide;
-    if any_nan(w, base, wide) {
+    if any_nan(w, s.len, wide) {
         return None;
     }
-    Some(sort_columns(w, base, wide))
+    Some(sort_columns(w, s.len, wide))
 }
 
 // The values from base on, as many as s has room for, into s in an order of their columns.
