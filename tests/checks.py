@@ -165,8 +165,8 @@ def loops_of_the_root_call_nothing():
 
 
 # The forms that document 01 requires: crate, function, what its text has to hold. docs/DECISIONS.md has the same table.
-LENT_TO_WRITE = r"&mut store\[\w+\.\.\w+\]"
-LENT_TO_READ = r"&store\[\w+\.\.\w+\]"
+LENT_TO_WRITE = r"&mut store\[[\w.]+\.\.[\w.]+\]"
+LENT_TO_READ = r"&store\[[\w.]+\.\.[\w.]+\]"
 GATE = r"\[\[Complex; 4\]; 4\]"
 FORMS = [
     ("qr", "factorize_gram_schmidt", r"for j in [^{]*\{.*let residual = loop \{.*break r;.*\};"),

@@ -12,7 +12,6 @@ use Rattle.model.specs.Truncation.{workspace}
 use Rattle.model.specs.Slots.{slot_room, slot_of}
 use Rattle.cutting.specs.Shape.{shape_of, room, room_fits}
 use Rattle.model.specs.declared.Bonds.{Bonds}
-use Rattle.cuts.specs.declared.Slots.{Slots}
 use Rattle.moves.specs.Ready.{Ready, pair_right}
 use Rattle.moves.specs.Steps.{Pair, first_slot, second_slot, second_after}
 
@@ -28,13 +27,6 @@ pub record Bytes (b : Bonds) : Type 0 where
   pub left : b.left ≤ 255
   pub mid : b.mid ≤ 255
   pub right : b.right ≤ 255
-
--- r says where the slots of the sites k and k + 1 begin and end, under the cap d
-pub record SlotsOf (d k : ℕ) (r : Slots) : Type 0 where
-  pub left : r.left ≡ k * slot_room d
-  pub left_end : r.left_end ≡ k * slot_room d + slot_room d
-  pub right : r.right ≡ (k + 1) * slot_room d
-  pub right_end : r.right_end ≡ (k + 1) * slot_room d + slot_room d
 
 -- the bond, the widest bond so far, the weights discarded so far, the chain's and the bond's, with a cut's shares added, and the centre
 abbrev pub recorded_cut : Chain → ℕ → ℕ → List Float → Option ℕ → Chain

@@ -11,14 +11,14 @@ ghost use Rattle.truncation.specs.Shares.{shares_of};
 ghost use Rattle.cutting.specs.Shape.{shape_of, standing, nan_in, Stands, Made};
 ghost use Rattle.moves.specs.Ready.{Ready};
 ghost use Rattle.moves.specs.Steps.{Pair};
-ghost use Rattle.cuts.specs.Pair.{pair_bonds, Bytes, SlotsOf, recorded_cut};
+ghost use Rattle.cuts.specs.Pair.{pair_bonds, Bytes, recorded_cut};
 ghost use Rattle.cuts.specs.Answered.{answered, answered_by};
 ghost use Rattle.cuts.specs.Attempts.{CutOf, Storable, stored_by, prepared_by};
 
 use complex::Complex;
 use cutting::{Decomposed, Kept, decompose, kept_values, store_left, store_right};
 use model::{Applied, Bonds, Chain, WeightSide};
-use moves::{establish_center, prepare_center};
+use moves::{establish_center, pair_slots, prepare_center};
 use pair::Neighbours;
 
 // ---- the bonds of a pair, and the tests before a cut
@@ -65,30 +65,6 @@ fn keeps_center(chain: &Chain, bonds: Bonds) -> bool
 
 // ---- one cut
 
-// Where the slots of the sites k and k + 1 begin and end in the store.
-#[derive(Clone, Copy)]
-struct Slots {
-    left: usize,
-    left_end: usize,
-    right: usize,
-    right_end: usize,
-}
-
-fn pair_slots(d: usize, k: usize) -> Slots
-    requires { (d ≤ 128) × (k < 64) }
-    ensures { SlotsOf d k result }
-{
-    let slot = 4 * d * d;
-    let left = k * slot;
-    let right = (k + 1) * slot;
-    Slots {
-        left,
-        left_end: left + slot,
-        right,
-        right_end: right + slot,
-    }
-}
-
 // The pair k, k + 1 with the gate on it, decomposed at the front of the work slice; nothing where one of its values is a NaN.
 fn decompose_pair(
     chain: &Chain,
@@ -103,13 +79,9 @@ fn decompose_pair(
     ensures made { let b = pair_bonds chain.now k in IfSome result (Made b.left b.right (pair_of gate k (held chain.now store.now)) work.new) }
 {
     let at = pair_slots(chain.max_bond_dim, k);
-    let a = at.left;
-    let b = at.left_end;
-    let s = at.right;
-    let t = at.right_end;
     let pair = Neighbours {
-        left: &store[a..b],
-        right: &store[s..t],
+        left: &store[at.left..at.left_end],
+        right: &store[at.right..at.right_end],
         gate: &gate,
         bonds: pair_bonds(chain, k),
     };
@@ -156,12 +128,8 @@ fn store_pair(
     ensures { store.new ≡ with_site d (k + 1) (right_site side bonds.mid bonds.right (standing pair.now.shape work.now pair.now.order)) (with_site d k (left_site side bonds.left bonds.mid (standing pair.now.shape work.now pair.now.order)) store.old) }
 {
     let at = pair_slots(d, k);
-    let a = at.left;
-    let b = at.left_end;
-    let s = at.right;
-    let t = at.right_end;
-    store_left(&mut store[a..b], work, pair, side, bonds);
-    store_right(&mut store[s..t], work, pair, side, bonds);
+    store_left(&mut store[at.left..at.left_end], work, pair, side, bonds);
+    store_right(&mut store[at.right..at.right_end], work, pair, side, bonds);
 }
 
 // A weight discarded so far, with a cut's share added. No share is not a share of 0, since -0 + 0 is another number.

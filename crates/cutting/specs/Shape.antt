@@ -1,18 +1,16 @@
 -- The decomposition of a pair of outer bonds bl and br, as it stands at the front of the work slice.
-use Rattle.std.specs.Prelude.{◌≡◌, Bool, ℕ, ◌+◌, ◌*◌, ◌≤◌, ◌<◌, min, max, Float, length, take}
+use Rattle.std.specs.Prelude.{◌≡◌, Bool, ℕ, ◌+◌, ◌*◌, ◌≤◌, ◌<◌, min, max, Float, length, take, get_or}
 use Rattle.std.proofs.Math.Path.{refl}
 use Rattle.std.proofs.Common.{ap, ◌∙◌, mul_comm, mul-le-mul_right, mul-le-mul_left, arith, length-take-le, take_at, ltb-true, ltb-false}
 use Rattle.std.proofs.Math.Bool.{true, false, cond}
 use mathlib.Core.List.{List, [], ◌++◌}
 use Rattle.std.proofs.Math.Dec.{ltb}
-use Rattle.complex.specs.Numbers.{at}
+use Rattle.complex.specs.Numbers.{at, count}
 use Rattle.complex.specs.declared.Complex.{Complex}
 use Rattle.model.specs.Svd.{Svd, ordered, order_of, factored, svd, values_at, raw_value, any_nan}
 use Rattle.model.specs.Pair.{gated_theta, matrix_of, adjoint_of, pair_svd}
 use Rattle.model.specs.Slots.{work_room}
 use Rattle.svd.specs.Order.{Below}
-use Rattle.fills.specs.Factors.{ColumnsIn, ValuesIn, columns_in}
-use Rattle.fills.specs.Factors as factors
 use Rattle.fills.specs.Sites.{u_factor, v_factor}
 use Rattle.fills.specs.declared.Factor.{Factor}
 use Rattle.cutting.specs.declared.Shape.{Shape}
@@ -141,27 +139,8 @@ standing_ordered s w f rest order e len o i = record {
   order = (o ∙ ap (λ (v : List Float). order_of s.wide (λ k. (at v (values_at s.high s.wide + k)).re)) e) i;
 }
 
--- the columns of both factors, and the values, are within the decomposition
-module _ (s : Shape) (w : List Float) (order : List ℕ) (h : Stands s w order) (chi : ℕ) where
-  whole : length (take (room s) w) ≡ room s
-  whole = length-take-le (room s) w h.fits
-
-  factor_in : (f : Factor) → f.base + s.wide * f.stride ≤ s.wide * s.high + s.wide * s.wide → ColumnsIn (take (room s) w) order f chi
-  factor_in f l = columns_in (take (room s) w) order f s.wide chi (λ g i. h.below g) (omega (arith, whole))
-
-  pub left_in : ColumnsIn (take (room s) w) order (left_factor s) chi
-  left_in = factor_in (left_factor s) (by_case s.adjoint)
-    where
-      by_case : (b : Bool) → cond b (s.wide * s.high) 0 + s.wide * cond b s.wide s.high ≤ s.wide * s.high + s.wide * s.wide
-      by_case true = omega arith
-      by_case false = omega arith
-
-  pub right_in : ColumnsIn (take (room s) w) order (right_factor s) chi
-  right_in = factor_in (right_factor s) (by_case s.adjoint)
-    where
-      by_case : (b : Bool) → cond b 0 (s.wide * s.high) + s.wide * cond b s.high s.wide ≤ s.wide * s.high + s.wide * s.wide
-      by_case true = omega arith
-      by_case false = omega arith
-
-  pub values_in : ValuesIn (take (room s) w) order (values_at s.high s.wide) chi
-  values_in = factors.values_in (take (room s) w) order (values_at s.high s.wide) s.wide chi (λ g i. h.below g) (omega (arith, whole))
+-- the value at the place g is within the decomposition
+pub value_in : (s : Shape) (w : List Float) (order : List ℕ) → Stands s w order → (g : ℕ) → s.vals + get_or order g 0 < count (take (2 * (s.vals + s.wide)) w)
+value_in s w order h g =
+    let f : 2 * (s.vals + s.wide) ≡ room s = omega (arith, h.first) in
+    rw f (omega (arith, length-take-le (room s) w h.fits, h.below g, h.first))

@@ -42,6 +42,7 @@ fn with_rows(adjoint: bool, high: usize, wide: usize) -> Shape
 }
 
 // The shape for a pair of outer bonds bl and br.
+#[tactic(auto, unfolding(crate::specs::Shape::shape_of))]
 fn shape_of(bl: usize, br: usize) -> Shape
     requires { (bl ≤ 128) × (br ≤ 128) }
     ensures { result ≡ shape_of bl br }
@@ -54,6 +55,7 @@ fn shape_of(bl: usize, br: usize) -> Shape
 }
 
 // The gate on the two sites' contraction, as the matrix that is decomposed.
+#[tactic(auto, unfolding(crate::specs::Shape::matrix_for))]
 fn contract_pair(adjoint: bool, pair: &Neighbours, out: &mut [f64])
     requires { length out.old ≡ 2 * (2 * pair.now.bonds.right * (2 * pair.now.bonds.left)) }
     ensures { out.new ≡ matrix_for adjoint pair.now.bonds.left pair.now.bonds.right (gated_theta pair.now.gate.now pair.now.bonds.mid pair.now.bonds.right pair.now.left.now pair.now.right.now) }
@@ -156,6 +158,7 @@ fn right_factor(s: Shape) -> Factor
 }
 
 // The left site of the decomposition in the work slice. The bonds are those after the cut: the one between the sites is how many values are kept.
+#[tactic(auto, using(crate::specs::Shape::left_stride, crate::specs::Shape::value_in))]
 pub fn store_left(slot: &mut [f64], work: &[f64], d: &Decomposed, side: WeightSide, bonds: Bonds)
     requires left_bound { (bonds.left ≤ 128) × (bonds.mid ≤ 256) × (2 * (2 * bonds.left * bonds.mid) ≤ length slot.old) }
     requires d_value { (d.now.shape ≡ shape_of bonds.left bonds.right) × Stands d.now.shape work.now d.now.order }
@@ -176,6 +179,7 @@ pub fn store_left(slot: &mut [f64], work: &[f64], d: &Decomposed, side: WeightSi
 }
 
 // The right site.
+#[tactic(auto, using(crate::specs::Shape::right_stride, crate::specs::Shape::value_in))]
 pub fn store_right(slot: &mut [f64], work: &[f64], d: &Decomposed, side: WeightSide, bonds: Bonds)
     requires right_bound { (bonds.right ≤ 128) × (bonds.mid ≤ 256) × (2 * (bonds.mid * (2 * bonds.right)) ≤ length slot.old) }
     requires d_value { (d.now.shape ≡ shape_of bonds.left bonds.right) × Stands d.now.shape work.now d.now.order }

@@ -1,4 +1,3 @@
--- The entries of a record's arrays, given by a closure or written one after the other, and the slots of a store.
-pub mod Entries
+-- The entries of a record's arrays, given by a closure, and the slots of a store.
 pub mod Given
 pub mod Sites

@@ -1,6 +1,6 @@
 -- A fresh site's slot, and the slots of the first k sites written into a store.
-use Rattle.std.specs.Prelude.{ℕ, suc, ◌+◌, ◌-◌, ◌*◌, ◌≤◌, ◌<◌, ◌≡◌, List, [], ◌∷◌, set, replicate, Float}
-use Rattle.std.proofs.Common.{ap, ◌∙◌, mul-le-mul, mul-le-mul_right}
+use Rattle.std.specs.Prelude.{ℕ, suc, ◌+◌, ◌-◌, ◌*◌, ◌≤◌, ◌≡◌, List, [], ◌∷◌, set, replicate, Float}
+use Rattle.std.proofs.Common.{ap, ◌∙◌, mul-le-mul}
 use Rattle.std.proofs.Math.Nat.{zero-mul}
 use native.Mathlib.Omega.{arith}
 use Rattle.std.proofs.Math.ListN.{length}
@@ -8,7 +8,7 @@ use Rattle.std.proofs.lemmas.List.{length-replicate}
 use Rattle.complex.specs.Complex.{zero_f, one_f}
 use Rattle.complex.specs.Parts.{put, length_part}
 use Rattle.complex.specs.Matrix.{block_none, block_more}
-use Rattle.model.specs.Slots.{slot_room, store_room, slot_of, filled}
+use Rattle.model.specs.Slots.{slot_room, slot_of, filled}
 use Rattle.model.specs.Start.{fresh_store}
 
 -- the amplitudes 1 and 0
@@ -29,13 +29,6 @@ length_site n h = rw length-replicate (omega arith)
 pub slot_least : (d : ℕ) → 1 ≤ d → 4 ≤ 4 * d * d
 slot_least d h = let s : 1 * 1 ≤ d * d = mul-le-mul h h in omega (arith, s)
 
-pub slot_most : (d : ℕ) → d ≤ 128 → 4 * d * d ≤ 65536
-slot_most d h = let s : d * d ≤ 128 * 128 = mul-le-mul h h in omega (arith, s)
-
--- the slot of site k ends within the room of n sites
-pub slot_within : (n d k : ℕ) → k < n → k * (4 * d * d) + 4 * d * d ≤ store_room n d
-slot_within n d k l = omega (arith, mul-le-mul_right (4 * d * d) l)
-
 -- ---- the store after k sites
 
 module _ (d : ℕ) (h : 1 ≤ d) (o : List Float) where
@@ -46,9 +39,9 @@ module _ (d : ℕ) (h : 1 ≤ d) (o : List Float) where
   unfolding fresh_store
   none_fresh = rw zero-mul (block_none site o)
 
-  pub more_fresh : (store : List Float) (k : ℕ) → k * slot_room d + slot_room d ≤ length o → length store ≡ length o → store ≡ fresh_store k d o
-      → put (k * slot_room d) (k * slot_room d + slot_room d) store (filled (length (slot_of d k store)) amplitudes) ≡ fresh_store (k + 1) d o
+  pub more_fresh : (store slot : List Float) (k : ℕ) → store ≡ fresh_store k d o → length store ≡ length o → k * slot_room d + slot_room d ≤ length o → slot ≡ filled (length (slot_of d k store)) amplitudes
+      → put (k * slot_room d) (k * slot_room d + slot_room d) store slot ≡ fresh_store (k + 1) d o
   unfolding fresh_store
-  more_fresh store k l n w =
+  more_fresh store slot k w n l e =
       let p : length (slot_of d k store) ≡ slot_room d = length_part (k * slot_room d) (k * slot_room d + slot_room d) store (omega arith) (omega arith) ∙ omega arith in
-      rw (p, w) (block_more (slot_room d) site (λ _. length_site (slot_room d) (slot_least d h)) k o l)
+      rw (e, p, w) (block_more (slot_room d) site (λ _. length_site (slot_room d) (slot_least d h)) k o l)

@@ -79,6 +79,7 @@ fn fresh_site(slot: &mut [f64])
 }
 
 // The slots of n sites under the cap d. Each is a part of the store that is lent, as document 01 asks.
+#[tactic(auto, using(crate::specs::Sites::none_fresh, crate::specs::Sites::more_fresh))]
 pub fn fresh_store(store: &mut [f64], n: usize, d: usize)
     requires { (n ≤ 64) × (1 ≤ d) × (d ≤ 128) × (store_room n d ≤ length store.old) }
     ensures { store.new ≡ fresh_store n d store.old }

@@ -1,5 +1,6 @@
 // One step of the centre beside the factoring: a site as the matrix that is factored, and r multiplied into the neighbour.
 // The factored list w holds q by columns and, from number bond * (2 * bl) on (2 * br to the left), r by rows of `bond` numbers.
+// Right and left are two functions each: mirror images, whose sums and orders differ in more than a constant.
 #![tactic(auto)]
 
 ghost use Rattle.std.specs.Prelude.{◌≡◌, ◌+◌, ◌*◌, ◌<◌, ◌≤◌, length};
@@ -12,6 +13,7 @@ ghost use Rattle.model.specs.Moves.{right_matrix, left_matrix, absorbed_right, a
 
 use complex::{Complex, complex_at};
 use fills::fill_rows;
+use model::Bonds;
 
 // ---- a site as the matrix that is factored
 
@@ -40,6 +42,7 @@ pub fn left_matrix(site: &[f64], out: &mut [f64], bond: usize, br: usize)
 // ---- to the right
 
 // Σ over d < n of w's number from + (row + d) times next's number d * step + c.
+#[tactic(auto, using(complex::specs::Loops::each_none, complex::specs::Loops::each_more))]
 fn right_sum(
     w: &[f64],
     from: usize,
@@ -60,32 +63,25 @@ fn right_sum(
 }
 
 // The first chi rows of r times the right neighbour, as the numbers of its slot; the rest of the slot is +0.
-pub fn absorb_right(
-    slot: &mut [f64],
-    w: &[f64],
-    next: &[f64],
-    bl: usize,
-    bond: usize,
-    br: usize,
-    chi: usize,
-)
-    requires bl_bound { (bl ≤ 128) × (bond ≤ 128) × (br ≤ 128) × (chi ≤ 128) }
-    requires bond_bound { (bond * (2 * bl) + chi * bond ≤ count w.now) × (bond * (2 * br) ≤ count next.now) × (2 * (chi * (2 * br)) ≤ length slot.old) }
-    ensures { slot.new ≡ filled (length slot.old) (absorbed_right bl bond br (kept chi w.now) next.now) }
+pub fn absorb_right(slot: &mut [f64], w: &[f64], next: &[f64], bonds: Bonds, chi: usize)
+    requires bl_bound { (bonds.left ≤ 128) × (bonds.mid ≤ 128) × (bonds.right ≤ 128) × (chi ≤ 128) }
+    requires bond_bound { (bonds.mid * (2 * bonds.left) + chi * bonds.mid ≤ count w.now) × (bonds.mid * (2 * bonds.right) ≤ count next.now) × (2 * (chi * (2 * bonds.right)) ≤ length slot.old) }
+    ensures { slot.new ≡ filled (length slot.old) (absorbed_right bonds.left bonds.mid bonds.right (kept chi w.now) next.now) }
 {
-    let from = bond * (2 * bl);
-    let wide = 2 * br;
+    let from = bonds.mid * (2 * bonds.left);
+    let wide = 2 * bonds.right;
     fill_rows(
         slot,
         chi,
         wide,
-        |g, c| right_sum(w, from, g * bond, next, wide, c, bond),
+        |g, c| right_sum(w, from, g * bonds.mid, next, wide, c, bonds.mid),
     );
 }
 
-// ---- to the left: the sums run over a row of the neighbour and a conjugate row of r, so this is no twin of the other
+// ---- to the left
 
 // Σ over d < n of prev's number line + d times the conjugate of w's number from + (row + d).
+#[tactic(auto, using(complex::specs::Loops::each_none, complex::specs::Loops::each_more))]
 fn left_sum(prev: &[f64], line: usize, w: &[f64], from: usize, row: usize, n: usize) -> Complex
     requires { (line + n ≤ count prev.now) × (from + (row + n) ≤ count w.now) }
     ensures { result ≡ sum_c n (λ d. mul_c (at prev.now (line + d)) (conj_c (at w.now (from + (row + d))))) zero_c }
@@ -98,24 +94,16 @@ fn left_sum(prev: &[f64], line: usize, w: &[f64], from: usize, row: usize, n: us
 }
 
 // The left neighbour times the conjugate transpose of the first chi rows of r, as the numbers of its slot; the rest of the slot is +0.
-pub fn absorb_left(
-    slot: &mut [f64],
-    w: &[f64],
-    prev: &[f64],
-    bl: usize,
-    bond: usize,
-    br: usize,
-    chi: usize,
-)
-    requires bl_bound { (bl ≤ 128) × (bond ≤ 128) × (br ≤ 128) × (chi ≤ 128) }
-    requires bond_bound { (bond * (2 * br) + chi * bond ≤ count w.now) × (2 * bl * bond ≤ count prev.now) × (2 * (2 * bl * chi) ≤ length slot.old) }
-    ensures { slot.new ≡ filled (length slot.old) (absorbed_left bl bond br (kept chi w.now) prev.now) }
+pub fn absorb_left(slot: &mut [f64], w: &[f64], prev: &[f64], bonds: Bonds, chi: usize)
+    requires bl_bound { (bonds.left ≤ 128) × (bonds.mid ≤ 128) × (bonds.right ≤ 128) × (chi ≤ 128) }
+    requires bond_bound { (bonds.mid * (2 * bonds.right) + chi * bonds.mid ≤ count w.now) × (2 * bonds.left * bonds.mid ≤ count prev.now) × (2 * (2 * bonds.left * chi) ≤ length slot.old) }
+    ensures { slot.new ≡ filled (length slot.old) (absorbed_left bonds.left bonds.mid bonds.right (kept chi w.now) prev.now) }
 {
-    let from = bond * (2 * br);
+    let from = bonds.mid * (2 * bonds.right);
     fill_rows(
         slot,
-        2 * bl,
+        2 * bonds.left,
         chi,
-        |r, g| left_sum(prev, r * bond, w, from, g * bond, bond),
+        |r, g| left_sum(prev, r * bonds.mid, w, from, g * bonds.mid, bonds.mid),
     );
 }

@@ -11,6 +11,7 @@ use Rattle.model.specs.Qr.{Kept, kept, qr}
 use Rattle.model.specs.Pair.{isometry_site, vt_site}
 use Rattle.gauge.specs.Copies.{absorbed_right_copy, absorbed_left_copy}
 use Rattle.model.specs.Moves.{q_at, right_matrix, left_matrix, absorbed_right, absorbed_left}
+use Rattle.moves.specs.declared.Slots.{Slots}
 
 -- ---- room
 
@@ -69,6 +70,13 @@ factors_fit {d} {a} {b} {e} {chi} {q} work cap ha hb he h eq room =
     }
 
 -- ---- two neighbouring slots
+
+-- r says where the slots of the sites k and k + 1 begin and end, under the cap d
+pub record SlotsOf (d k : ℕ) (r : Slots) : Type 0 where
+  pub left : r.left ≡ k * slot_room d
+  pub left_end : r.left_end ≡ k * slot_room d + slot_room d
+  pub right : r.right ≡ (k + 1) * slot_room d
+  pub right_end : r.right_end ≡ (k + 1) * slot_room d + slot_room d
 
 module _ (d k : ℕ) (store : List Float) (room : (k + 1) * slot_room d + slot_room d ≤ length store) where
   pub first_slot : length (slot_of d k store) ≡ slot_room d

@@ -1,4 +1,5 @@
 // Moves of the orthogonality centre by QR steps.
+// A step to the right and one to the left are two functions each: mirror images, whose sums and orders differ in more than a constant.
 #![tactic(auto)]
 
 ghost use Rattle.std.specs.Prelude.{◌≡◌, ◌+◌, ◌-◌, ◌*◌, ◌<◌, ◌≤◌, min, length, take};
@@ -9,12 +10,40 @@ ghost use Rattle.model.specs.Slots.{State, held, slot_of};
 ghost use Rattle.model.specs.Qr.{kept, qr};
 ghost use Rattle.model.specs.Moves.{right_matrix, left_matrix, step_right, step_left, walk_right, walk_left, moved, established, centered_on, prepared, prepared_on};
 ghost use Rattle.moves.specs.Ready.{Ready};
-ghost use Rattle.moves.specs.Steps.{factored_room, Pair, factors_right, factors_left, stored_right, stored_left};
+ghost use Rattle.moves.specs.Steps.{SlotsOf, factored_room, Pair, factors_right, factors_left, stored_right, stored_left};
 
 use fills::{fill_columns, fill_rows_conj};
 use gauge::{absorb_left, absorb_right, left_matrix, right_matrix};
-use model::{Chain, WeightSide};
+use model::{Bonds, Chain, WeightSide};
 use qr::factorize_gram_schmidt;
+
+// ---- where two neighbours stand
+
+// Where the slots of the sites k and k + 1 begin and end in the store.
+#[derive(Clone, Copy)]
+pub struct Slots {
+    pub left: usize,
+    pub left_end: usize,
+    pub right: usize,
+    pub right_end: usize,
+}
+
+pub fn pair_slots(d: usize, k: usize) -> Slots
+    requires { (d ≤ 128) × (k < 64) }
+    ensures { SlotsOf d k result }
+{
+    let slot = 4 * d * d;
+    let left = k * slot;
+    let right = (k + 1) * slot;
+    Slots {
+        left,
+        left_end: left + slot,
+        right,
+        right_end: right + slot,
+    }
+}
+
+// ---- what a step reads: the site as a matrix, factored at the front of the work slice, and behind it a copy of the neighbour
 
 // How many floats the factored list of a matrix of so many rows and columns takes.
 fn factored_room(high: usize, cols: usize) -> usize
@@ -23,8 +52,6 @@ fn factored_room(high: usize, cols: usize) -> usize
 {
     2 * (cols * high + high.min(cols) * cols)
 }
-
-// ---- what a step reads: the site as a matrix, factored at the front of the work slice, and behind it a copy of the neighbour
 
 // The site as a matrix, factored: how many columns q has.
 fn factor_right(site: &[f64], work: &mut [f64], bl: usize, bond: usize) -> usize
@@ -68,24 +95,30 @@ fn write_right(
     work: &[f64],
     d: usize,
     k: usize,
-    bl: usize,
-    bond: usize,
-    br: usize,
+    bonds: Bonds,
     chi: usize,
     q: usize,
 )
-    requires pair { Pair d k bl bond br store.old work.now }
-    requires chi_bound { (chi ≤ min (2 * bl) bond) × (q ≡ factored_room (2 * bl) bond) }
-    ensures { store.new ≡ stored_right d k bl bond br (kept chi (take q work.now)) (part q (q + 2 * (bond * (2 * br))) work.now) store.old }
+    requires pair { Pair d k bonds.left bonds.mid bonds.right store.old work.now }
+    requires chi_bound { (chi ≤ min (2 * bonds.left) bonds.mid) × (q ≡ factored_room (2 * bonds.left) bonds.mid) }
+    ensures { store.new ≡ stored_right d k bonds.left bonds.mid bonds.right (kept chi (take q work.now)) (part q (q + 2 * (bonds.mid * (2 * bonds.right))) work.now) store.old }
 {
-    let slot = 4 * d * d;
-    let a = k * slot;
-    let b = a + slot;
-    let s = (k + 1) * slot;
-    let t = s + slot;
-    let e = q + 2 * (bond * (2 * br));
-    fill_columns(&mut store[a..b], &work[..q], 2 * bl, bl, chi);
-    absorb_right(&mut store[s..t], &work[..q], &work[q..e], bl, bond, br, chi);
+    let at = pair_slots(d, k);
+    let e = q + 2 * (bonds.mid * (2 * bonds.right));
+    fill_columns(
+        &mut store[at.left..at.left_end],
+        &work[..q],
+        2 * bonds.left,
+        bonds.left,
+        chi,
+    );
+    absorb_right(
+        &mut store[at.right..at.right_end],
+        &work[..q],
+        &work[q..e],
+        bonds,
+        chi,
+    );
 }
 
 fn write_left(
@@ -93,79 +126,71 @@ fn write_left(
     work: &[f64],
     d: usize,
     k: usize,
-    bl: usize,
-    bond: usize,
-    br: usize,
+    bonds: Bonds,
     chi: usize,
     q: usize,
 )
-    requires pair { Pair d k bl bond br store.old work.now }
-    requires chi_bound { (chi ≤ min (2 * br) bond) × (q ≡ factored_room (2 * br) bond) }
-    ensures { store.new ≡ stored_left d k bl bond br (kept chi (take q work.now)) (part q (q + 2 * (2 * bl * bond)) work.now) store.old }
+    requires pair { Pair d k bonds.left bonds.mid bonds.right store.old work.now }
+    requires chi_bound { (chi ≤ min (2 * bonds.right) bonds.mid) × (q ≡ factored_room (2 * bonds.right) bonds.mid) }
+    ensures { store.new ≡ stored_left d k bonds.left bonds.mid bonds.right (kept chi (take q work.now)) (part q (q + 2 * (2 * bonds.left * bonds.mid)) work.now) store.old }
 {
-    let slot = 4 * d * d;
-    let a = k * slot;
-    let b = a + slot;
-    let s = (k + 1) * slot;
-    let t = s + slot;
-    let e = q + 2 * (2 * bl * bond);
-    absorb_left(&mut store[a..b], &work[..q], &work[q..e], bl, bond, br, chi);
-    fill_rows_conj(&mut store[s..t], &work[..q], 2 * br, chi, br);
+    let at = pair_slots(d, k);
+    let e = q + 2 * (2 * bonds.left * bonds.mid);
+    absorb_left(
+        &mut store[at.left..at.left_end],
+        &work[..q],
+        &work[q..e],
+        bonds,
+        chi,
+    );
+    fill_rows_conj(
+        &mut store[at.right..at.right_end],
+        &work[..q],
+        2 * bonds.right,
+        chi,
+        bonds.right,
+    );
 }
 
 // ---- one step: the new bond
 
 // Site k keeps q across its right bond, and r is multiplied into site k + 1.
-fn step_right(
-    store: &mut [f64],
-    work: &mut [f64],
-    d: usize,
-    k: usize,
-    bl: usize,
-    bond: usize,
-    br: usize,
-) -> usize
-    requires { Pair d k bl bond br store.old work.old }
-    ensures value { result ≡ (factors_right d k bl bond store.old).rank }
-    ensures store_after { store.new ≡ stored_right d k bl bond br (factors_right d k bl bond store.old) (slot_of d (k + 1) store.old) store.old }
-    ensures upper_bound { result ≤ bond }
+fn step_right(store: &mut [f64], work: &mut [f64], d: usize, k: usize, bonds: Bonds) -> usize
+    requires { Pair d k bonds.left bonds.mid bonds.right store.old work.old }
+    ensures value { result ≡ (factors_right d k bonds.left bonds.mid store.old).rank }
+    ensures store_after { store.new ≡ stored_right d k bonds.left bonds.mid bonds.right (factors_right d k bonds.left bonds.mid store.old) (slot_of d (k + 1) store.old) store.old }
+    ensures upper_bound { result ≤ bonds.mid }
 {
-    let slot = 4 * d * d;
-    let a = k * slot;
-    let b = a + slot;
-    let s = (k + 1) * slot;
-    let t = s + slot;
-    let q = factored_room(2 * bl, bond);
-    let chi = factor_right(&store[a..b], work, bl, bond);
-    keep_copy(&store[s..t], work, q, 2 * (bond * (2 * br)));
-    write_right(store, work, d, k, bl, bond, br, chi, q);
+    let at = pair_slots(d, k);
+    let q = factored_room(2 * bonds.left, bonds.mid);
+    let chi = factor_right(&store[at.left..at.left_end], work, bonds.left, bonds.mid);
+    keep_copy(
+        &store[at.right..at.right_end],
+        work,
+        q,
+        2 * (bonds.mid * (2 * bonds.right)),
+    );
+    write_right(store, work, d, k, bonds, chi, q);
     chi
 }
 
 // The same to the left, from site k + 1 to site k, by the conjugate transpose.
-fn step_left(
-    store: &mut [f64],
-    work: &mut [f64],
-    d: usize,
-    k: usize,
-    bl: usize,
-    bond: usize,
-    br: usize,
-) -> usize
-    requires { Pair d k bl bond br store.old work.old }
-    ensures value { result ≡ (factors_left d k bond br store.old).rank }
-    ensures store_after { store.new ≡ stored_left d k bl bond br (factors_left d k bond br store.old) (slot_of d k store.old) store.old }
-    ensures upper_bound { result ≤ bond }
+fn step_left(store: &mut [f64], work: &mut [f64], d: usize, k: usize, bonds: Bonds) -> usize
+    requires { Pair d k bonds.left bonds.mid bonds.right store.old work.old }
+    ensures value { result ≡ (factors_left d k bonds.mid bonds.right store.old).rank }
+    ensures store_after { store.new ≡ stored_left d k bonds.left bonds.mid bonds.right (factors_left d k bonds.mid bonds.right store.old) (slot_of d k store.old) store.old }
+    ensures upper_bound { result ≤ bonds.mid }
 {
-    let slot = 4 * d * d;
-    let a = k * slot;
-    let b = a + slot;
-    let s = (k + 1) * slot;
-    let t = s + slot;
-    let q = factored_room(2 * br, bond);
-    let chi = factor_left(&store[s..t], work, bond, br);
-    keep_copy(&store[a..b], work, q, 2 * (2 * bl * bond));
-    write_left(store, work, d, k, bl, bond, br, chi, q);
+    let at = pair_slots(d, k);
+    let q = factored_room(2 * bonds.right, bonds.mid);
+    let chi = factor_left(&store[at.right..at.right_end], work, bonds.mid, bonds.right);
+    keep_copy(
+        &store[at.left..at.left_end],
+        work,
+        q,
+        2 * (2 * bonds.left * bonds.mid),
+    );
+    write_left(store, work, d, k, bonds, chi, q);
     chi
 }
 
@@ -190,7 +215,12 @@ fn shift_center_right(chain: &mut Chain, store: &mut [f64], work: &mut [f64], k:
     let bl = usize::from(chain.bond_left[k]);
     let bond = usize::from(chain.bond_right[k]);
     let br = usize::from(chain.bond_right[k + 1]);
-    let chi = step_right(store, work, d, k, bl, bond, br);
+    let bonds = Bonds {
+        left: bl,
+        mid: bond,
+        right: br,
+    };
+    let chi = step_right(store, work, d, k, bonds);
     set_bond(chain, k, chi);
 }
 
@@ -204,7 +234,12 @@ fn shift_center_left(chain: &mut Chain, store: &mut [f64], work: &mut [f64], k: 
     let bl = usize::from(chain.bond_left[k]);
     let bond = usize::from(chain.bond_left[k + 1]);
     let br = usize::from(chain.bond_right[k + 1]);
-    let chi = step_left(store, work, d, k, bl, bond, br);
+    let bonds = Bonds {
+        left: bl,
+        mid: bond,
+        right: br,
+    };
+    let chi = step_left(store, work, d, k, bonds);
     set_bond(chain, k, chi);
 }
 

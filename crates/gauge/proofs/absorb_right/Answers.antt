@@ -9,4 +9,4 @@ use Rattle.gauge.proofs.absorb_right.Goals as goal
 pub returns : goal.returns
 unfolding absorbed_right
 returns c = let a = c.args in
-    c.fill_rows.ensures (λ g k. sum_c a.bond (λ d. mul_c (at a.w.now (a.bond * (2 * a.bl) + (g * a.bond + d))) (at a.next.now (d * (2 * a.br) + k))) zero_c) (λ g r z l m p. search rules)
+    c.fill_rows.ensures (λ g k. sum_c a.bonds.mid (λ d. mul_c (at a.w.now (a.bonds.mid * (2 * a.bonds.left) + (g * a.bonds.mid + d))) (at a.next.now (d * (2 * a.bonds.right) + k))) zero_c) (λ g r z l m p. search rules)
