@@ -1,13 +1,13 @@
 -- What a move needs of the chain and the two slices, and that every step, walk and move leaves it.
-use Rattle.std.specs.Prelude.{ℕ, ◌+◌, ◌≤◌, ◌<◌, ◌≡◌, refl, List, length, Float}
+use Rattle.std.specs.Prelude.{ℕ, ◌+◌, ◌≤◌, ◌<◌, ◌≡◌, List, length, Float}
 use Rattle.std.proofs.Common.{ap, ◌∙◌, arith, mul-le-mul_right}
 use Rattle.model.specs.declared.Chain.{Chain}
 use Rattle.model.specs.Chain.{bond_left, bond_right, with_bond}
 use Rattle.model.specs.Slots.{State, held, slot_of, slot_room, store_room, work_room}
-use Rattle.model.specs.Moves.{step_right, step_left, walk_right, moved}
+use Rattle.model.specs.Moves.{step_right, step_left, moved}
 use Rattle.model.specs.Statements.Soundness.{Sound}
 use Rattle.moves.specs.Steps.{Pair, factors_right, factors_left, stored_right, stored_left}
-use Rattle.model.proofs.Laws.MoveLaws.{Narrowed, narrowed_qubits, narrowed_cap, Apart, step_right_narrowed, step_right_apart, step_left_narrowed, step_left_apart, walk_right_narrowed, walk_right_apart, moved_narrowed, moved_apart}
+use Rattle.model.proofs.Laws.MoveLaws.{Narrowed, narrowed_qubits, narrowed_cap, Apart, step_right_narrowed, step_right_apart, step_left_narrowed, step_left_apart, moved_narrowed, moved_apart}
 
 -- a sound record, with a store of its size and room to work
 pub record Ready (c : Chain) (store work : List Float) : Type 0 where
@@ -51,41 +51,41 @@ module _ (c r : Chain) (store out : List Float) (k bl bond br chi : ℕ) (el : b
   unfolding step_left
   stepped_left eb ec eo = rw (e, eo, ec, el, eb, er)
 
--- what a move leaves as it was: number of sites, cap, length of the store
-pub record Stays (c r : Chain) (store out : List Float) : Type 0 where
+-- what a call leaves as it was: number of sites, cap, lengths of the slices
+pub record Stays (c r : Chain) (store out work room : List Float) : Type 0 where
   pub sound : Sound r
   pub qubits : r.num_qubits ≡ c.num_qubits
   pub cap : r.max_bond_dim ≡ c.max_bond_dim
-  pub long : length out ≡ length store
+  pub store_length : length out ≡ length store
+  pub work_length : length room ≡ length work
 
-pub ready_after : (c r : Chain) (store out work room : List Float) → Ready c store work → Stays c r store out → length room ≡ length work → Ready r out room
-ready_after c r store out work room h s l = record {
+pub ready_after : {c r : Chain} {store out work room : List Float} → Ready c store work → Stays c r store out work room → Ready r out room
+ready_after h s = record {
   sound = s.sound;
-  store_room_lem = rw (s.qubits, s.cap, s.long) h.store_room_lem;
-  work_room_lem = rw (s.cap, l) h.work_room_lem;
+  store_room_lem = rw (s.qubits, s.cap, s.store_length) h.store_room_lem;
+  work_room_lem = rw (s.cap, s.work_length) h.work_room_lem;
 }
 
 -- from the laws of the model
-stays : {lo hi n d : ℕ} (c r : Chain) (store out : List Float) (s : State) → Narrowed lo hi c s.chain → Apart n d lo hi store s.store → held r out ≡ s → Stays c r store out
-stays c r store out s x y e =
+stays : {lo hi n d : ℕ} (c r : Chain) (store out work room : List Float) (s : State) → Narrowed lo hi c s.chain → Apart n d lo hi store s.store → held r out ≡ s → length room ≡ length work
+    → Stays c r store out work room
+stays c r store out work room s x y e l =
     let ec : r ≡ s.chain = ap (λ (t : State). t.chain) e in
     let eo : out ≡ s.store = ap (λ (t : State). t.store) e in
     record {
       sound = rw ec x.sound;
       qubits = ap (λ (t : Chain). t.num_qubits) ec ∙ narrowed_qubits x;
       cap = ap (λ (t : Chain). t.max_bond_dim) ec ∙ narrowed_cap x;
-      long = ap length eo ∙ y.long;
+      store_length = ap length eo ∙ y.long;
+      work_length = l;
     }
 
-module _ (c r : Chain) (store out work : List Float) (h : Ready c store work) where
-  pub right_stays : (k : ℕ) → k + 1 < c.num_qubits → held r out ≡ step_right k (held c store) → Stays c r store out
-  right_stays k l = stays c r store out _ (step_right_narrowed k (held c store) h.sound l) (step_right_apart k (held c store) h.sound l h.store_room_lem)
+module _ {c r : Chain} {store out work room : List Float} (h : Ready c store work) (n : length room ≡ length work) where
+  pub right_stays : (k : ℕ) → k + 1 < c.num_qubits → held r out ≡ step_right k (held c store) → Stays c r store out work room
+  right_stays k l e = stays c r store out work room _ (step_right_narrowed k (held c store) h.sound l) (step_right_apart k (held c store) h.sound l h.store_room_lem) e n
 
-  pub left_stays : (k : ℕ) → k + 1 < c.num_qubits → held r out ≡ step_left k (held c store) → Stays c r store out
-  left_stays k l = stays c r store out _ (step_left_narrowed k (held c store) h.sound l) (step_left_apart k (held c store) h.sound l h.store_room_lem)
+  pub left_stays : (k : ℕ) → k + 1 < c.num_qubits → held r out ≡ step_left k (held c store) → Stays c r store out work room
+  left_stays k l e = stays c r store out work room _ (step_left_narrowed k (held c store) h.sound l) (step_left_apart k (held c store) h.sound l h.store_room_lem) e n
 
-  pub walk_stays : (m k : ℕ) → k + m < c.num_qubits → held r out ≡ walk_right m k (held c store) → Stays c r store out
-  walk_stays m k l = stays c r store out _ (walk_right_narrowed m k (held c store) h.sound l) (walk_right_apart _ _ m k (held c store) h.sound refl refl l h.store_room_lem)
-
-  pub moved_stays : (from to : ℕ) → from < c.num_qubits → to < c.num_qubits → held r out ≡ moved from to (held c store) → Stays c r store out
-  moved_stays from to l m = stays c r store out _ (moved_narrowed from to (held c store) h.sound l m) (moved_apart from to (held c store) h.sound l m h.store_room_lem)
+  pub moved_stays : (from to : ℕ) → from < c.num_qubits → to < c.num_qubits → held r out ≡ moved from to (held c store) → Stays c r store out work room
+  moved_stays from to l m e = stays c r store out work room _ (moved_narrowed from to (held c store) h.sound l m) (moved_apart from to (held c store) h.sound l m h.store_room_lem) e n
