@@ -1,6 +1,6 @@
 -- The chain with its store and work slice: what a call makes of it.
 use Rattle.std.specs.Prelude.{◌≡◌, refl}
-use Rattle.std.proofs.Common.{ap, ◌∙◌}
+use Rattle.std.proofs.Common.{◌∙◌}
 use Rattle.model.specs.Slots.{State, held}
 use Rattle.moves.specs.Ready.{Stays}
 use Rattle.moves.specs.declared.Mps.{Mps}
@@ -9,36 +9,23 @@ use Rattle.moves.specs.declared.Mps.{Mps}
 abbrev pub state : Mps → State
 state m = held m.chain.now m.store.now
 
--- `new` is `old` with the state s; it lends the same places
-pub record Becomes (s : State) (old new : Mps) : Type 0 where
-  pub value : state new ≡ s
+-- `new` lends the same places as `old`, of the same sizes
+pub record Same (old new : Mps) : Type 0 where
   pub stays : Stays old.chain.now new.chain.now old.store.now new.store.now old.work.now new.work.now
   pub chain_lent : new.chain.ghost_name ≡ old.chain.ghost_name
   pub store_lent : new.store.ghost_name ≡ old.store.ghost_name
   pub work_lent : new.work.ghost_name ≡ old.work.ghost_name
 
--- and whatever its state is
-abbrev pub Same : Mps → Mps → Type 0
-Same old new = Becomes (state new) old new
+-- and their state is s
+pub record Becomes (s : State) (old new : Mps) : Type 0 where
+  pub value : state new ≡ s
+  pub place : Same old new
 
 pub itself : (m : Mps) → Same m m
-itself m = record {
-  value = refl;
-  stays = record { sound = m.ready.sound; qubits = refl; cap = refl; store_length = refl; work_length = refl };
-  chain_lent = refl;
-  store_lent = refl;
-  work_lent = refl;
-}
+itself m = record { stays = record { sound = m.ready.sound; qubits = refl; cap = refl; store_length = refl; work_length = refl }; chain_lent = refl; store_lent = refl; work_lent = refl }
 
-pub read_as : {s t : State} {a b : Mps} → Becomes s a b → s ≡ t → Becomes t a b
-read_as x e = record { value = x.value ∙ e; stays = x.stays; chain_lent = x.chain_lent; store_lent = x.store_lent; work_lent = x.work_lent }
-
-pub same : {s : State} {a b : Mps} → Becomes s a b → Same a b
-same x = record { value = refl; stays = x.stays; chain_lent = x.chain_lent; store_lent = x.store_lent; work_lent = x.work_lent }
-
-pub and_then : (f : State → State) {s : State} {a b c : Mps} → Becomes s a b → Becomes (f (state b)) b c → Becomes (f s) a c
-and_then f x y = record {
-  value = y.value ∙ ap f x.value;
+pub and_then : {a b c : Mps} → Same a b → Same b c → Same a c
+and_then x y = record {
   stays = record {
     sound = y.stays.sound;
     qubits = y.stays.qubits ∙ x.stays.qubits;

@@ -214,7 +214,7 @@ pub struct Mps<'a> {
 }
 
 impl<'a> Mps<'a> {
-    ghost use Rattle.moves.specs.Mps.{state, Becomes};
+    ghost use Rattle.moves.specs.Mps.{state, Same, Becomes};
 
     // The centre goes from site k to site k + 1.
     fn shift_center_right(&mut self, k: usize)
@@ -304,7 +304,7 @@ impl<'a> Mps<'a> {
     pub fn prepare_center(&mut self, k: usize) -> WeightSide
         requires { k + 1 < self.old.chain.now.num_qubits }
         ensures value { prepared result (state self.new) ≡ prepared_on k self.old.chain.now.center (state self.old) }
-        ensures place { Becomes (state self.new) self.old self.new }
+        ensures place { Same self.old self.new }
     {
         let aim = aim_at(self.chain.center, k);
         self.center_on(aim.site);

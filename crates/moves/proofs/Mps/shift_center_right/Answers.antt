@@ -14,4 +14,4 @@ invariant_of-self c = let s = c.step_right-chi in
 pub returns : goal.returns
 returns c = let s = c.step_right-chi in
     let e = stepped_right _ _ _ _ _ _ _ _ _ c.from-bl.ensures c.from-br.ensures c.set_bond.ensures c.from-bond.ensures s.ensures.value s.ensures.store_after in
-    record { value = e; stays = right_stays c.args.self.now.ready s.auto.work _ c.requires e; chain_lent = refl; store_lent = refl; work_lent = refl }
+    record { value = e; place = record { stays = right_stays c.args.self.now.ready s.auto.work _ c.requires e; chain_lent = refl; store_lent = refl; work_lent = refl } }
