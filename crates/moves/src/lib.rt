@@ -217,6 +217,7 @@ impl<'a> Mps<'a> {
     ghost use Rattle.moves.specs.Mps.{state, Same, Becomes};
 
     // The centre goes from site k to site k + 1.
+    #[tactic(auto, using(crate::specs::Ready::pair_right))]
     fn shift_center_right(&mut self, k: usize)
         requires { k + 1 < self.old.chain.now.num_qubits }
         ensures { Becomes (step_right k (state self.old)) self.old self.new }
@@ -232,6 +233,7 @@ impl<'a> Mps<'a> {
     }
 
     // The centre goes from site k + 1 to site k.
+    #[tactic(auto, using(crate::specs::Ready::pair_left))]
     fn shift_center_left(&mut self, k: usize)
         requires { k + 1 < self.old.chain.now.num_qubits }
         ensures { Becomes (step_left k (state self.old)) self.old self.new }
@@ -247,6 +249,7 @@ impl<'a> Mps<'a> {
     }
 
     // Steps to the right, from one site to another; none where that is not to the right.
+    #[tactic(auto, using(crate::specs::Mps::itself, crate::specs::Mps::and_then, crate::specs::Walks::right_turn, crate::specs::Walks::right_done))]
     fn walk_right(&mut self, from: usize, to: usize)
         requires { to < self.old.chain.now.num_qubits }
         ensures { Becomes (walk_right (to - from) from (state self.old)) self.old self.new }
@@ -256,6 +259,7 @@ impl<'a> Mps<'a> {
         }
     }
 
+    #[tactic(auto, using(crate::specs::Mps::itself, crate::specs::Mps::and_then, crate::specs::Walks::left_turn, crate::specs::Walks::left_done))]
     fn walk_left(&mut self, from: usize, to: usize)
         requires { from < self.old.chain.now.num_qubits }
         ensures { Becomes (walk_left (from - to) from (state self.old)) self.old self.new }
@@ -266,6 +270,7 @@ impl<'a> Mps<'a> {
     }
 
     // The centre goes from one site to another.
+    #[tactic(auto, using(crate::specs::Mps::and_then, crate::specs::Walks::moved_walks, crate::specs::Ready::moved_stays))]
     pub fn move_center(&mut self, from: usize, to: usize)
         requires { (from < self.old.chain.now.num_qubits) × (to < self.old.chain.now.num_qubits) }
         ensures { Becomes (moved from to (state self.old)) self.old self.new }
@@ -276,6 +281,7 @@ impl<'a> Mps<'a> {
     }
 
     // A centre at `to` where none is recorded: first to the end away from it, across every site.
+    #[tactic(auto, using(crate::specs::Mps::and_then, crate::specs::Walks::established_down, crate::specs::Walks::established_up))]
     pub fn establish_center(&mut self, to: usize)
         requires { to < self.old.chain.now.num_qubits }
         ensures { Becomes (established to (state self.old)) self.old self.new }
@@ -287,6 +293,7 @@ impl<'a> Mps<'a> {
     }
 
     // The centre onto a site, from where it is.
+    #[tactic(auto, using(crate::specs::Mps::itself, crate::specs::Walks::on_own))]
     pub fn center_on(&mut self, k: usize)
         requires { k < self.old.chain.now.num_qubits }
         ensures { Becomes (centered_on k self.old.chain.now.center (state self.old)) self.old self.new }

@@ -1,10 +1,6 @@
--- The three bonds are within the cap, and the new one is at most the old.
 use mathlib.Core.Path.{refl}
-use Rattle.moves.specs.Ready.{pair_left, stepped_left, left_stays, ready_after}
+use Rattle.moves.specs.Ready.{stepped_left, left_stays, ready_after}
 use Rattle.moves.proofs.Mps.shift_center_left.Goals as goal
-
-pub step_left-chi-requires : goal.step_left-chi-requires
-step_left-chi-requires c = pair_left _ _ _ c.args.self.now.ready _ c.requires _ _ _ c.from-bl.ensures c.from-br.ensures c.from-bond.ensures
 
 pub invariant_of-self : goal.invariant_of-self
 invariant_of-self c = let s = c.step_left-chi in

@@ -1,10 +1,6 @@
--- The three bonds are within the cap, and the new one is at most the old.
 use mathlib.Core.Path.{refl}
-use Rattle.moves.specs.Ready.{pair_right, stepped_right, right_stays, ready_after}
+use Rattle.moves.specs.Ready.{stepped_right, right_stays, ready_after}
 use Rattle.moves.proofs.Mps.shift_center_right.Goals as goal
-
-pub step_right-chi-requires : goal.step_right-chi-requires
-step_right-chi-requires c = pair_right _ _ _ c.args.self.now.ready _ c.requires _ _ _ c.from-bl.ensures c.from-br.ensures c.from-bond.ensures
 
 pub invariant_of-self : goal.invariant_of-self
 invariant_of-self c = let s = c.step_right-chi in
