@@ -1,7 +1,7 @@
 -- One turn of each walk, and none; a move, from what each of its parts leaves.
 use Prim.Native.Nat.{ℕ, suc, ◌+◌, ◌-◌, ◌*◌, ◌≤◌, ◌<◌}
-use Rattle.std.specs.Prelude.{◌≡◌, ◌⊎◌, Option, None, Some}
-use Rattle.std.proofs.Common.{sym, ap, ◌∙◌, ⊎_elim}
+use Rattle.std.specs.Prelude.{◌≡◌, refl, Option, None, Some}
+use Rattle.std.proofs.Common.{sym, ap, ◌∙◌}
 use native.Mathlib.Omega.{arith}
 use borrow.Author.Tests.{le-leb, lt-leb}
 use Rattle.model.specs.declared.WeightSide.TheVariants.{Left, Right}
@@ -26,43 +26,28 @@ module _ (to at : ℕ) (s : State) where
   unfolding walk_left
   left_done l = let e : at - to ≡ 0 = omega arith in rw e
 
--- ---- moves, from what each call leaves
+-- ---- moves
 
-module _ (s u v : State) where
-  pub moved_walks : (from to : ℕ) → u ≡ walk_right (to - from) from s → v ≡ walk_left (from - to) from u → centered to v ≡ moved from to s
-  unfolding moved
-  moved_walks from to eu ev = rw (ev, eu)
+pub moved_walks : (from to : ℕ) (s : State) → centered to (walk_left (from - to) from (walk_right (to - from) from s)) ≡ moved from to s
+unfolding moved
+moved_walks from to s = refl
 
-  -- from the end `far`, away from `to`, to the other end, and from there to `to`
-  module _ (to last far : ℕ) (n : last ≡ s.chain.num_qubits - 1) (eu : u ≡ moved far (last - far) s) (ev : v ≡ moved (last - far) to u) where
-    pub established_down : 2 * to ≤ last → far ≡ last → v ≡ established to s
-    unfolding established
-    established_down l e = let z : last - last ≡ 0 = omega arith in rw (← n, le-leb (2 * to) last l, ev, eu, e, z)
+-- from the end `far`, away from `to`, to the other end, and from there to `to`
+module _ (to last far : ℕ) (s : State) (n : last ≡ s.chain.num_qubits - 1) where
+  pub established_down : 2 * to ≤ last → far ≡ last → moved (last - far) to (moved far (last - far) s) ≡ established to s
+  unfolding established
+  established_down l e = let z : last - last ≡ 0 = omega arith in rw (← n, le-leb (2 * to) last l, e, z)
 
-    pub established_up : last < 2 * to → far ≡ 0 → v ≡ established to s
-    unfolding established
-    established_up l e = let z : last - 0 ≡ last = omega arith in rw (← n, lt-leb (2 * to) last l, ev, eu, e, z)
-
--- either end is a site
-module _ {A B : Type 0} (n far : ℕ) (l : 0 < n) (came : (A × (far ≡ n - 1)) ⊎ (B × (far ≡ 0))) where
-  pub end_below : far ≤ n - 1
-  end_below = ⊎_elim (λ w. omega (arith, w.1)) (λ w. omega (arith, w.1)) came
-
-  pub ends_within : (far < n) × (n - 1 - far < n)
-  ends_within = let h = end_below in (omega arith, omega arith)
+  pub established_up : last < 2 * to → far ≡ 0 → moved (last - far) to (moved far (last - far) s) ≡ established to s
+  unfolding established
+  established_up l e = let z : last - 0 ≡ last = omega arith in rw (← n, lt-leb (2 * to) last l, e, z)
 
 -- where no centre is recorded, and where one is
 module _ (k : ℕ) (center : Option ℕ) where
-  pub on_unknown : (s u : State) → center ≡ None → u ≡ established k s → u ≡ centered_on k center s
-  on_unknown s u e eu = rw (e, eu)
-
   pub prepared_unknown : center ≡ None → (s : State) → prepared Right (centered_on k center s) ≡ prepared_on k center s
   prepared_unknown e s = rw e
 
   module _ (from : ℕ) (e : center ≡ Some from) where
-    pub on_centre : (s u : State) → u ≡ moved from k s → u ≡ centered_on k center s
-    on_centre s u eu = rw (e, eu)
-
     pub on_own : (s : State) → s.chain.center ≡ center → from ≡ k → s ≡ centered_on k center s
     on_own s own o = rw (e, o) (sym (moved_still k s (own ∙ e ∙ ap Some o)))
 

@@ -6,9 +6,10 @@ ghost use Rattle.std.specs.Prelude.{◌≡◌, ◌+◌, ◌-◌, ◌*◌, ◌<�
 ghost use Rattle.complex.specs.Numbers.{count};
 ghost use Rattle.complex.specs.Parts.{part};
 ghost use Rattle.model.specs.Chain.{with_bond};
-ghost use Rattle.model.specs.Slots.{State, held, slot_of};
+ghost use Rattle.model.specs.Slots.{State, slot_of};
 ghost use Rattle.model.specs.Qr.{kept, qr};
 ghost use Rattle.model.specs.Moves.{right_matrix, left_matrix, step_right, step_left, walk_right, walk_left, moved, established, centered_on, prepared, prepared_on};
+ghost use Rattle.moves.specs.Bonds.{pair_bonds, Bytes};
 ghost use Rattle.moves.specs.Ready.{Ready};
 ghost use Rattle.moves.specs.Steps.{SlotsOf, factored_room, Pair, factors_right, factors_left, stored_right, stored_left};
 
@@ -40,6 +41,19 @@ pub fn pair_slots(d: usize, k: usize) -> Slots
         left_end: left + slot,
         right,
         right_end: right + slot,
+    }
+}
+
+// The bonds of the sites k and k + 1.
+pub fn pair_bonds(chain: &Chain, k: usize) -> Bonds
+    requires { k < 63 }
+    ensures value { result ≡ pair_bonds chain.now k }
+    ensures bytes { Bytes result }
+{
+    Bonds {
+        left: usize::from(chain.bond_left[k]),
+        mid: usize::from(chain.bond_right[k]),
+        right: usize::from(chain.bond_right[k + 1]),
     }
 }
 
@@ -203,105 +217,6 @@ fn set_bond(chain: &mut Chain, k: usize, bond: usize)
     chain.bond_right[k] = bond as u8;
 }
 
-// ---- the chain
-
-// The centre goes from site k to site k + 1.
-fn shift_center_right(chain: &mut Chain, store: &mut [f64], work: &mut [f64], k: usize)
-    requires ready { Ready chain.old store.old work.old }
-    requires k_bound { k + 1 < chain.old.num_qubits }
-    ensures { held chain.new store.new ≡ step_right k (held chain.old store.old) }
-{
-    let d = chain.max_bond_dim;
-    let bl = usize::from(chain.bond_left[k]);
-    let bond = usize::from(chain.bond_right[k]);
-    let br = usize::from(chain.bond_right[k + 1]);
-    let bonds = Bonds {
-        left: bl,
-        mid: bond,
-        right: br,
-    };
-    let chi = step_right(store, work, d, k, bonds);
-    set_bond(chain, k, chi);
-}
-
-// The centre goes from site k + 1 to site k.
-fn shift_center_left(chain: &mut Chain, store: &mut [f64], work: &mut [f64], k: usize)
-    requires ready { Ready chain.old store.old work.old }
-    requires k_bound { k + 1 < chain.old.num_qubits }
-    ensures { held chain.new store.new ≡ step_left k (held chain.old store.old) }
-{
-    let d = chain.max_bond_dim;
-    let bl = usize::from(chain.bond_left[k]);
-    let bond = usize::from(chain.bond_left[k + 1]);
-    let br = usize::from(chain.bond_right[k + 1]);
-    let bonds = Bonds {
-        left: bl,
-        mid: bond,
-        right: br,
-    };
-    let chi = step_left(store, work, d, k, bonds);
-    set_bond(chain, k, chi);
-}
-
-// Steps to the right, from one site to another; none where that is not to the right.
-fn walk_right(chain: &mut Chain, store: &mut [f64], work: &mut [f64], from: usize, to: usize)
-    requires ready { Ready chain.old store.old work.old }
-    requires to_bound { to < chain.old.num_qubits }
-    ensures { held chain.new store.new ≡ walk_right (to - from) from (held chain.old store.old) }
-{
-    for at in from..to {
-        shift_center_right(chain, store, work, at);
-    }
-}
-
-fn walk_left(chain: &mut Chain, store: &mut [f64], work: &mut [f64], from: usize, to: usize)
-    requires ready { Ready chain.old store.old work.old }
-    requires from_bound { from < chain.old.num_qubits }
-    ensures { held chain.new store.new ≡ walk_left (from - to) from (held chain.old store.old) }
-{
-    for at in (to..from).rev() {
-        shift_center_left(chain, store, work, at);
-    }
-}
-
-// The centre goes from one site to another.
-pub fn move_center(chain: &mut Chain, store: &mut [f64], work: &mut [f64], from: usize, to: usize)
-    requires ready { Ready chain.old store.old work.old }
-    requires from_bound { (from < chain.old.num_qubits) × (to < chain.old.num_qubits) }
-    ensures { held chain.new store.new ≡ moved from to (held chain.old store.old) }
-{
-    walk_right(chain, store, work, from, to);
-    walk_left(chain, store, work, from, to);
-    chain.center = Some(to);
-}
-
-// A centre at `to` where none is recorded: first to the end away from it, across every site.
-pub fn establish_center(chain: &mut Chain, store: &mut [f64], work: &mut [f64], to: usize)
-    requires ready { Ready chain.old store.old work.old }
-    requires to_bound { to < chain.old.num_qubits }
-    ensures { held chain.new store.new ≡ established to (held chain.old store.old) }
-{
-    let last = chain.num_qubits - 1;
-    let far = if 2 * to <= last { last } else { 0 };
-    move_center(chain, store, work, far, last - far);
-    move_center(chain, store, work, last - far, to);
-}
-
-// The centre onto a site, from where it is.
-pub fn center_on(chain: &mut Chain, store: &mut [f64], work: &mut [f64], k: usize)
-    requires ready { Ready chain.old store.old work.old }
-    requires k_bound { k < chain.old.num_qubits }
-    ensures { held chain.new store.new ≡ centered_on k chain.old.center (held chain.old store.old) }
-{
-    match chain.center {
-        None => establish_center(chain, store, work, k),
-        // a routed gate's next swap finds the centre on its pair
-        Some(from) => if from != k {
-            move_center(chain, store, work, from, k)
-        },
-    }
-}
-
 // Where the centre goes before a cut, and the side that the cut shall leave it on.
 #[derive(Clone, Copy)]
 struct Aim {
@@ -326,18 +241,115 @@ fn aim_at(center: Option<usize>, k: usize) -> Aim
     }
 }
 
-// The centre onto the pair k, k + 1: the side that the cut shall leave it on.
-pub fn prepare_center(
-    chain: &mut Chain,
-    store: &mut [f64],
-    work: &mut [f64],
-    k: usize,
-) -> WeightSide
-    requires ready { Ready chain.old store.old work.old }
-    requires k_bound { k + 1 < chain.old.num_qubits }
-    ensures { prepared result (held chain.new store.new) ≡ prepared_on k chain.old.center (held chain.old store.old) }
-{
-    let aim = aim_at(chain.center, k);
-    center_on(chain, store, work, aim.site);
-    aim.side
+// ---- the chain
+
+// The chain with its store and a work slice, as the Rust's backend holds them; `ready`: the record is sound, and the slices have room.
+#[derive(Drop)]
+pub struct Mps<'a> {
+    pub chain: &'a mut Chain,
+    pub store: &'a mut [f64],
+    pub work: &'a mut [f64],
+    pub ghost ready: { Ready chain.now store.now work.now },
+}
+
+impl<'a> Mps<'a> {
+    ghost use Rattle.moves.specs.Mps.{state, Same, Becomes};
+
+    // The centre goes from site k to site k + 1.
+    #[tactic(auto, using(crate::specs::Ready::pair_ready))]
+    fn shift_center_right(&mut self, k: usize)
+        requires { k + 1 < self.old.chain.now.num_qubits }
+        ensures { Becomes (step_right k (state self.old)) self.old self.new }
+    {
+        let d = self.chain.max_bond_dim;
+        let bonds = pair_bonds(self.chain, k);
+        let store = &mut *self.store;
+        let work = &mut *self.work;
+        let chi = step_right(store, work, d, k, bonds);
+        set_bond(self.chain, k, chi);
+    }
+
+    // The centre goes from site k + 1 to site k.
+    #[tactic(auto, using(crate::specs::Ready::pair_ready))]
+    fn shift_center_left(&mut self, k: usize)
+        requires { k + 1 < self.old.chain.now.num_qubits }
+        ensures { Becomes (step_left k (state self.old)) self.old self.new }
+    {
+        let d = self.chain.max_bond_dim;
+        let bonds = pair_bonds(self.chain, k);
+        let store = &mut *self.store;
+        let work = &mut *self.work;
+        let chi = step_left(store, work, d, k, bonds);
+        set_bond(self.chain, k, chi);
+    }
+
+    // Steps to the right, from one site to another; none where that is not to the right.
+    #[tactic(auto, using(crate::specs::Mps::itself, crate::specs::Mps::and_then, crate::specs::Walks::right_turn, crate::specs::Walks::right_done))]
+    fn walk_right(&mut self, from: usize, to: usize)
+        requires { to < self.old.chain.now.num_qubits }
+        ensures { Becomes (walk_right (to - from) from (state self.old)) self.old self.new }
+    {
+        for at in from..to {
+            self.shift_center_right(at);
+        }
+    }
+
+    #[tactic(auto, using(crate::specs::Mps::itself, crate::specs::Mps::and_then, crate::specs::Walks::left_turn, crate::specs::Walks::left_done))]
+    fn walk_left(&mut self, from: usize, to: usize)
+        requires { from < self.old.chain.now.num_qubits }
+        ensures { Becomes (walk_left (from - to) from (state self.old)) self.old self.new }
+    {
+        for at in (to..from).rev() {
+            self.shift_center_left(at);
+        }
+    }
+
+    // The centre goes from one site to another.
+    #[tactic(auto, using(crate::specs::Mps::and_then, crate::specs::Walks::moved_walks, crate::specs::Ready::moved_stays))]
+    pub fn move_center(&mut self, from: usize, to: usize)
+        requires { (from < self.old.chain.now.num_qubits) × (to < self.old.chain.now.num_qubits) }
+        ensures { Becomes (moved from to (state self.old)) self.old self.new }
+    {
+        self.walk_right(from, to);
+        self.walk_left(from, to);
+        self.chain.center = Some(to);
+    }
+
+    // A centre at `to` where none is recorded: first to the end away from it, across every site.
+    #[tactic(auto, using(crate::specs::Mps::and_then, crate::specs::Walks::established_down, crate::specs::Walks::established_up))]
+    pub fn establish_center(&mut self, to: usize)
+        requires { to < self.old.chain.now.num_qubits }
+        ensures { Becomes (established to (state self.old)) self.old self.new }
+    {
+        let last = self.chain.num_qubits - 1;
+        let far = if 2 * to <= last { last } else { 0 };
+        self.move_center(far, last - far);
+        self.move_center(last - far, to);
+    }
+
+    // The centre onto a site, from where it is.
+    #[tactic(auto, using(crate::specs::Mps::itself, crate::specs::Walks::on_own))]
+    pub fn center_on(&mut self, k: usize)
+        requires { k < self.old.chain.now.num_qubits }
+        ensures { Becomes (centered_on k self.old.chain.now.center (state self.old)) self.old self.new }
+    {
+        match self.chain.center {
+            None => self.establish_center(k),
+            // a routed gate's next swap finds the centre on its pair
+            Some(from) => if from != k {
+                self.move_center(from, k)
+            },
+        }
+    }
+
+    // The centre onto the pair k, k + 1: the side that the cut shall leave it on.
+    pub fn prepare_center(&mut self, k: usize) -> WeightSide
+        requires { k + 1 < self.old.chain.now.num_qubits }
+        ensures value { prepared result (state self.new) ≡ prepared_on k self.old.chain.now.center (state self.old) }
+        ensures place { Same self.old self.new }
+    {
+        let aim = aim_at(self.chain.center, k);
+        self.center_on(aim.site);
+        aim.side
+    }
 }
