@@ -1,11 +1,11 @@
 // The singular value decomposition of a matrix of `high` rows and `wide` columns, in place. The slice holds, in numbers,
 // the matrix and the rotations as in jacobi, and behind them the values, each with the imaginary part +0.
-#![tactic(auto, using(complex::specs::Loops::each_none, complex::specs::Loops::each_more, complex::specs::Loops::between_none, complex::specs::Loops::between_more), unfolding(model::specs::Svd::identity_at, model::specs::Svd::normalised, model::specs::Svd::factored, model::specs::Svd::any_nan, model::specs::Svd::earlier, model::specs::Svd::later, model::specs::Svd::order_of))]
+#![tactic(auto, using(complex::specs::Loops::each_none, complex::specs::Loops::each_more, complex::specs::Loops::between_none, complex::specs::Loops::between_more), unfolding(model::specs::Svd::identity_at, model::specs::Svd::normalised, model::specs::Svd::factored, model::specs::Svd::any_nan, model::specs::Svd::order_of))]
 
 ghost use Rattle.std.specs.Prelude.{◌≡◌, ◌+◌, ◌*◌, ◌<◌, ◌≤◌, length, get_or, take, is_none, IfSome};
-ghost use Rattle.complex.specs.Loops.{each, tabulate};
+ghost use Rattle.complex.specs.Loops.{each, between, tabulate};
 ghost use Rattle.complex.specs.Numbers.{count, at};
-ghost use Rattle.model.specs.Svd.{identity_at, values_at, normalised, factored, any_nan, earlier, later, place, order_of};
+ghost use Rattle.model.specs.Svd.{identity_at, values_at, normalised, factored, any_nan, tallied, place, order_of};
 ghost use Rattle.svd.specs.Order.{Below};
 
 use columns::{clear_from, l2_norm, scale_to, zero_run};
@@ -56,7 +56,7 @@ struct Values<'a> {
 }
 
 impl<'a> Values<'a> {
-    ghost use Rattle.svd.specs.Values.{value_of};
+    ghost use Rattle.svd.specs.Values.{value_of, goes_before};
 
     // The value of column k.
     fn value(&self, k: usize) -> f64
@@ -77,45 +77,34 @@ impl<'a> Values<'a> {
         bad
     }
 
-    // How many of lower column come before j: those whose value is no less.
-    fn count_earlier(&self, j: usize) -> usize
-        requires { j < self.now.n }
-        ensures value { result ≡ earlier (value_of self.now) j }
-        ensures upper_bound { result ≤ j }
+    // How many of the columns from `lo` up to `hi` come before j: those whose value is greater, and with EQUAL those whose
+    // value is equal too.
+    fn count_before<const EQUAL: bool>(&self, lo: usize, hi: usize, j: usize) -> usize
+        requires { (lo ≤ hi) × (hi ≤ self.now.n) × (j < self.now.n) }
+        ensures value { result ≡ between lo hi (λ k. tallied (goes_before EQUAL (value_of self.now j) (value_of self.now k))) 0 }
+        ensures upper_bound { result + lo ≤ hi }
     {
         let own = self.value(j);
         let mut c = 0usize;
-        for k in 0..j {
-            if own <= self.value(k) {
+        for k in lo..hi {
+            let other = self.value(k);
+            let before = if EQUAL { own <= other } else { own < other };
+            if before {
                 c += 1;
             }
         }
         c
     }
 
-    // How many of higher column come before j: those whose value is greater.
-    fn count_later(&self, j: usize) -> usize
-        requires { j < self.now.n }
-        ensures value { result ≡ later self.now.n (value_of self.now) j }
-        ensures j_bound { result + j < self.now.n }
-    {
-        let own = self.value(j);
-        let mut c = 0usize;
-        for k in j + 1..self.n {
-            if own < self.value(k) {
-                c += 1;
-            }
-        }
-        c
-    }
-
-    // The place of column j in the order of the values.
+    // The place of column j in the order of the values: the columns before it are those of lower column whose value is no
+    // less, and those of higher column whose value is greater.
+    #[tactic(auto, using(crate::proofs::Counted::earlier_counted), unfolding(model::specs::Svd::later))]
     fn place_of(&self, j: usize) -> usize
         requires { j < self.now.n }
         ensures value { result ≡ place self.now.n (value_of self.now) j }
         ensures upper_bound { result < self.now.n }
     {
-        self.count_earlier(j) + self.count_later(j)
+        self.count_before::<true>(0, j, j) + self.count_before::<false>(j + 1, self.n, j)
     }
 
     // The columns in the order of the values: downward, equal ones by lower column first. Each is put where the count of
