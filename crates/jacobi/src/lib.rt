@@ -26,8 +26,8 @@ fn gram(w: &[f64], high: usize, p: usize, q: usize) -> Gram
     for r in 0..high {
         let x = complex_at(w, p * high + r);
         let y = complex_at(w, q * high + r);
-        pp = pp + x.norm_sqr();
-        qq = qq + y.norm_sqr();
+        pp += x.norm_sqr();
+        qq += y.norm_sqr();
         pq = pq + x.conj() * y;
     }
     Gram { pp, qq, pq }
