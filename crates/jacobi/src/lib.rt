@@ -169,7 +169,8 @@ fn rotate(w: &mut [f64], base: usize, m: usize, p: usize, q: usize, t: Rotation)
     }
 }
 
-// The sizes of a matrix of `high` rows and `wide` columns with its rotations, and how many numbers the two have.
+// The sizes of a matrix of `high` rows and `wide` columns with its rotations, and how many numbers the two have. The slice is
+// lent to each method: held in the struct, it would ask each contract to say that slice and sizes are the same after the call.
 #[derive(Clone, Copy)]
 pub struct Sizes {
     pub high: usize,
