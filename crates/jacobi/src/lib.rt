@@ -26,8 +26,8 @@ fn gram(w: &[f64], high: usize, p: usize, q: usize) -> Gram
     for r in 0..high {
         let x = complex_at(w, p * high + r);
         let y = complex_at(w, q * high + r);
-        pp = pp + x.norm_sqr();
-        qq = qq + y.norm_sqr();
+        pp += x.norm_sqr();
+        qq += y.norm_sqr();
         pq = pq + x.conj() * y;
     }
     Gram { pp, qq, pq }
@@ -169,7 +169,8 @@ fn rotate(w: &mut [f64], base: usize, m: usize, p: usize, q: usize, t: Rotation)
     }
 }
 
-// The sizes of a matrix of `high` rows and `wide` columns with its rotations, and how many numbers the two have.
+// The sizes of a matrix of `high` rows and `wide` columns with its rotations, and how many numbers the two have. The slice is
+// lent to each method: held in the struct, it would ask each contract to say that slice and sizes are the same after the call.
 #[derive(Clone, Copy)]
 pub struct Sizes {
     pub high: usize,

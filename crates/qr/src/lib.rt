@@ -17,54 +17,64 @@ const QR_PASS_RETAIN: f64 = 0.5;
 
 const QR_RANK_REL_TOL: f64 = 1e-14;
 
-// number a.conj() times number b, added to acc.
-fn add_term(w: &[f64], a: usize, b: usize, acc: Complex) -> Complex
-    requires { (a < count w.now) × (b < count w.now) }
-    ensures { result ≡ qr.term w.now a b acc }
-{
-    acc + complex_at(w, a).conj() * complex_at(w, b)
+// Two runs of n numbers in a slice, from number a and from number b on.
+#[derive(Clone, Copy)]
+struct Runs<'a> {
+    w: &'a [f64],
+    a: usize,
+    b: usize,
+    n: usize,
+    ghost within: { (a + n ≤ count w.now) × (b + n ≤ count w.now) },
 }
 
-// The terms of m whole fours, in four running sums by place.
-fn sum_fours(w: &[f64], a: usize, b: usize, m: usize) -> [Complex; 4]
-    requires { (a + 4 * m ≤ count w.now) × (b + 4 * m ≤ count w.now) }
-    ensures { result ≡ qr.run_of w.now a b (λ t. 4 * t) m ∷ qr.run_of w.now a b (λ t. 4 * t + 1) m ∷ qr.run_of w.now a b (λ t. 4 * t + 2) m ∷ qr.run_of w.now a b (λ t. 4 * t + 3) m ∷ [] }
-{
-    let mut s0 = Complex::ZERO;
-    let mut s1 = Complex::ZERO;
-    let mut s2 = Complex::ZERO;
-    let mut s3 = Complex::ZERO;
-    for t in 0..m {
-        let k = 4 * t;
-        s0 = add_term(w, a + k, b + k, s0);
-        s1 = add_term(w, a + (k + 1), b + (k + 1), s1);
-        s2 = add_term(w, a + (k + 2), b + (k + 2), s2);
-        s3 = add_term(w, a + (k + 3), b + (k + 3), s3);
+impl<'a> Runs<'a> {
+    // The first run's number k, conjugate, times the second's, added to acc.
+    fn add_term(&self, k: usize, acc: Complex) -> Complex
+        requires { k < self.now.n }
+        ensures { result ≡ qr.term self.now.w.now (self.now.a + k) (self.now.b + k) acc }
+    {
+        acc + complex_at(self.w, self.a + k).conj() * complex_at(self.w, self.b + k)
     }
-    [s0, s1, s2, s3]
-}
 
-// The terms from place `from` on, added to start.
-fn sum_rest(w: &[f64], a: usize, b: usize, from: usize, n: usize, start: Complex) -> Complex
-    requires { (from ≤ n) × (a + n ≤ count w.now) × (b + n ≤ count w.now) }
-    ensures { result ≡ between from n (λ k. qr.term w.now (a + k) (b + k)) start }
-{
-    let mut acc = start;
-    for k in from..n {
-        acc = add_term(w, a + k, b + k, acc);
+    // The terms of m whole fours, in four running sums by place.
+    fn sum_fours(&self, m: usize) -> [Complex; 4]
+        requires { 4 * m ≤ self.now.n }
+        ensures { let sum = qr.run_of self.now.w.now self.now.a self.now.b in result ≡ sum (λ t. 4 * t) m ∷ sum (λ t. 4 * t + 1) m ∷ sum (λ t. 4 * t + 2) m ∷ sum (λ t. 4 * t + 3) m ∷ [] }
+    {
+        let mut s0 = Complex::ZERO;
+        let mut s1 = Complex::ZERO;
+        let mut s2 = Complex::ZERO;
+        let mut s3 = Complex::ZERO;
+        for t in 0..m {
+            s0 = self.add_term(4 * t, s0);
+            s1 = self.add_term(4 * t + 1, s1);
+            s2 = self.add_term(4 * t + 2, s2);
+            s3 = self.add_term(4 * t + 3, s3);
+        }
+        [s0, s1, s2, s3]
     }
-    acc
-}
 
-// The sum of conj times number over the n numbers from a on and those from b on.
-fn dot(w: &[f64], a: usize, b: usize, n: usize) -> Complex
-    requires { (a + n ≤ count w.now) × (b + n ≤ count w.now) }
-    ensures { result ≡ qr.dot w.now a b n }
-{
-    let m = n / 4;
-    let [s0, s1, s2, s3] = sum_fours(w, a, b, m);
-    let first = sum_rest(w, a, b, 4 * m, n, s0);
-    first + s1 + (s2 + s3)
+    // The terms from place `from` on, added to start.
+    fn sum_rest(&self, from: usize, start: Complex) -> Complex
+        requires { from ≤ self.now.n }
+        ensures { result ≡ between from self.now.n (λ k. qr.term self.now.w.now (self.now.a + k) (self.now.b + k)) start }
+    {
+        let mut acc = start;
+        for k in from..self.n {
+            acc = self.add_term(k, acc);
+        }
+        acc
+    }
+
+    // The sum of all terms.
+    fn dot(&self) -> Complex
+        ensures { result ≡ qr.dot self.now.w.now self.now.a self.now.b self.now.n }
+    {
+        let m = self.n / 4;
+        let [s0, s1, s2, s3] = self.sum_fours(m);
+        let first = self.sum_rest(4 * m, s0);
+        first + s1 + (s2 + s3)
+    }
 }
 
 // d times the n numbers from `from` on, taken from those from `to` on.
@@ -82,7 +92,8 @@ fn take_away(w: &mut [f64], from: usize, to: usize, n: usize, d: Complex)
 }
 
 // The sizes of a matrix of `high` rows and `wide` columns and of r behind it, which has `cap` rows, as q has columns at most;
-// and how many numbers the two have.
+// and how many numbers the two have. The slice is lent to each method: held in the struct, it would ask each contract to say
+// that slice and sizes are the same after the call.
 #[derive(Clone, Copy)]
 struct ThinQr {
     high: usize,
@@ -109,7 +120,13 @@ impl ThinQr {
         requires { (i < self.cap) × (j < self.wide) × (self.len ≤ count w.old) }
         ensures { w.new ≡ qr.projected_on self.high self.wide j i w.old }
     {
-        let d = dot(w, i * self.high, j * self.high, self.high);
+        let columns = Runs {
+            w,
+            a: i * self.high,
+            b: j * self.high,
+            n: self.high,
+        };
+        let d = columns.dot();
         take_away(w, i * self.high, j * self.high, self.high, d);
         let entry = self.entry(i, j);
         set_complex(w, entry, complex_at(w, entry) + d);

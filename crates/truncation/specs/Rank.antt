@@ -10,10 +10,10 @@ use Rattle.model.proofs.Laws.Reasons.{leading_within}
 
 -- ---- the values that lead are the longest front whose values are all above b
 
-pub leading_front : (b : Float) (s : List Float) → prefix_len (λ x. lt b x) s ≡ leading b s
+pub leading_front : (b : Float) (s : List Float) → prefix_len (lt b) s ≡ leading b s
 leading_front b [] = refl
 leading_front b (x ∷ s) =
-    let e : 1 + prefix_len (λ x. lt b x) s ≡ suc (leading b s) = omega (arith, leading_front b s) in
+    let e : 1 + prefix_len (lt b) s ≡ suc (leading b s) = omega (arith, leading_front b s) in
     ap (λ (n : ℕ). cond (lt b x) n 0) e
 
 -- ---- from place k on: the value there leads or not, or there is none

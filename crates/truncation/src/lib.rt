@@ -22,7 +22,7 @@ fn first(s: &[f64]) -> f64
 
 // How many values lead that are above the threshold.
 fn count_leading(s: &[f64], threshold: f64) -> usize
-    ensures { result ≡ prefix_len (λ x. lt threshold x) s.now }
+    ensures { result ≡ prefix_len (lt threshold) s.now }
 {
     s.iter().take_while(|x| **x > threshold).count()
 }
@@ -50,6 +50,7 @@ pub struct Ranked {
 }
 
 // Those above epsilon times the first, at least 1, at most max_bond_dim.
+#[tactic(auto, using(crate::specs::Rank::leading_front), unfolding(model::specs::Truncation::rank, model::specs::Truncation::rank_reason))]
 pub fn truncated_svd_rank(s: &[f64], epsilon: f64, max_bond_dim: usize) -> Ranked
     ensures { (result.chi ≡ rank epsilon max_bond_dim s.now) × (result.reason ≡ rank_reason epsilon max_bond_dim s.now) }
 {
@@ -71,14 +72,14 @@ pub fn discards_resolvable_weight(s: &[f64], chi: usize) -> bool
 }
 
 // The squares of the values from place `from` on, summed.
-#[tactic(auto, using(complex::specs::Loops::each_none))]
+#[tactic(auto, using(complex::specs::Loops::each_none, complex::specs::Loops::each_more, crate::proofs::Rest::rest_at))]
 fn sum_squares_from(s: &[f64], from: usize) -> f64
     requires { from ≤ length s.now }
     ensures { result ≡ squares_from from s.now }
 {
     let mut sum = 0.0;
     for x in &s[from..] {
-        sum = sum + x * x;
+        sum += x * x;
     }
     sum
 }

@@ -1,5 +1,5 @@
 use Rattle.model.specs.Qr.{dot}
-use Rattle.qr.proofs.dot.Goals as goal
+use Rattle.qr.proofs.Runs.dot.Goals as goal
 
 pub returns : goal.returns
 unfolding dot
