@@ -41,11 +41,11 @@ pub products_most : (b : Bonds) → Bytes b → (b.left * b.right ≤ 65025) × 
 products_most b h = (mul-le-mul h.left h.right, mul-le-mul h.mid h.right)
 
 -- so they are below 2 ^ 63, and 2 to the exponent can be cut off there: the machine can shift no further
-pub shifted : (e : ℕ) (b : Bonds) → Bytes b → ltb (1 * 2 ^ min e 63 % 18446744073709551616) (needed b) ≡ ltb (2 ^ e) (needed b)
-shifted e b h =
+pub shifted : (e m : ℕ) (b : Bonds) → m ≡ min e 63 → Bytes b → ltb (1 * 2 ^ m % 18446744073709551616) (needed b) ≡ ltb (2 ^ e) (needed b)
+shifted e m b em h =
     let below : min e 63 ≤ 63 = omega arith in
     let most : 2 ^ min e 63 ≤ 2 ^ 63 = pow-le-pow_right {n = 2} (omega arith) below in
-    ap (λ (x : ℕ). ltb x (needed b)) (mod-eq_of_lt (omega arith) ∙ omega arith) ∙ either (dec_lt e 63)
+    rw em (ap (λ (x : ℕ). ltb x (needed b)) (mod-eq_of_lt (omega arith) ∙ omega arith) ∙ either (dec_lt e 63))
   where
     either : Dec (e < 63) → ltb (2 ^ min e 63) (needed b) ≡ ltb (2 ^ e) (needed b)
     either (yes m) = ap (λ (x : ℕ). ltb (2 ^ x) (needed b)) (omega arith)

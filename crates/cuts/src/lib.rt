@@ -38,6 +38,7 @@ fn pair_bonds(chain: &Chain, k: usize) -> Bonds
 
 // Whether a cut of these bonds needs more numbers than the setting allows. Bonds that are bytes need
 // fewer than 2^63, so that from 63 on every exponent allows the same.
+#[tactic(auto, using(crate::specs::Pair::shifted))]
 fn workspace_exceeded(workspace_exponent: u8, bonds: Bonds) -> bool
     requires { Bytes bonds }
     ensures { result ≡ ltb (2 ^ workspace_exponent) (workspace bonds.left bonds.mid bonds.right) }

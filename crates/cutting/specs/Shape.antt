@@ -1,7 +1,7 @@
 -- The decomposition of a pair of outer bonds bl and br, as it stands at the front of the work slice.
 use Rattle.std.specs.Prelude.{◌≡◌, Bool, ℕ, ◌+◌, ◌*◌, ◌≤◌, ◌<◌, min, max, Float, length, take, get_or}
 use Rattle.std.proofs.Math.Path.{refl}
-use Rattle.std.proofs.Common.{ap, ◌∙◌, mul_comm, mul-le-mul_right, mul-le-mul_left, arith, length-take-le, take_at, ltb-true, ltb-false}
+use Rattle.std.proofs.Common.{ap, ◌∙◌, mul_comm, mul-le-mul, mul-le-mul_right, mul-le-mul_left, arith, length-take-le, take_at, ltb-true, ltb-false}
 use Rattle.std.proofs.Math.Bool.{true, false, cond}
 use mathlib.Core.List.{List, [], ◌++◌}
 use Rattle.std.proofs.Math.Dec.{ltb}
@@ -100,6 +100,19 @@ module _ (bl br : ℕ) where
   module _ (s : Shape) (e : s ≡ shape_of bl br) where
     pub shape_small : bl ≤ 128 → br ≤ 128 → (s.high ≤ 256) × (s.wide ≤ 256) × (s.vals ≡ values_at s.high s.wide)
     shape_small hl hr = (omega (arith, ap (λ (x : Shape). x.high) e, shape_high), omega (arith, ap (λ (x : Shape). x.wide) e, shape_wide), rw e shape_first)
+
+    -- what a decomposition of that shape takes
+    pub shape_columns : bl ≤ 128 → br ≤ 128 → s.wide ≤ 256
+    shape_columns hl hr = (shape_small hl hr).1
+
+    pub shape_most : bl ≤ 128 → br ≤ 128 → s.vals + s.wide ≤ 131328
+    shape_most hl hr = let z = shape_small hl hr in omega (arith, mul-le-mul z.1 z.0, mul-le-mul z.1 z.1)
+
+    pub shape_cells : s.wide * s.high ≡ 2 * br * (2 * bl)
+    shape_cells = rw e shape_matrix
+
+    pub shape_room : s.vals + s.wide ≡ s.wide * s.high + s.wide * s.wide + s.wide
+    shape_room = rw e (omega (arith, shape_first))
 
     pub shape_stands : (w : List Float) (order : List ℕ) → 1 ≤ bl → bl ≤ 128 → 1 ≤ br → br ≤ 128 → room s ≤ length w → Below s.wide order → Stands s w order
     shape_stands w order l hl m hr fits below =

@@ -74,7 +74,9 @@ pub struct Decomposed {
     pub order: [u8; 256],
 }
 
-// The pair with the gate on it, decomposed; nothing where one of its values is a NaN.
+// The pair with the gate on it, decomposed; nothing where one of its values is a NaN. Here and in kept_values the settings
+// stay single numbers: kernels below moves take slices and numbers, and may not name the record that holds the settings.
+#[tactic(auto, using(crate::specs::Shape::shape_columns, crate::specs::Shape::shape_most, crate::specs::Shape::shape_cells, crate::specs::Shape::shape_room, crate::proofs::Lent::lengths, crate::proofs::Lent::nan_told))]
 pub fn decompose(pair: &Neighbours, work: &mut [f64], clamp: f64) -> Option<Decomposed>
     requires le_left { (1 ≤ pair.now.bonds.left) × (1 ≤ pair.now.bonds.right) }
     requires work_bound { room (shape_of pair.now.bonds.left pair.now.bonds.right) ≤ length work.old }

@@ -29,9 +29,6 @@ settings_passed n d epsilon clamp exponent fits e t = settings_ranges n d epsilo
 pub sound_passed : (c : Chain) (fits : Bool) → fits ≡ sound c → fits ≡ true → Ranges c.num_qubits c.max_bond_dim
 sound_passed c fits e t = sound_ranges c (ap not (sym e ∙ t))
 
--- the products that room is made of
-pub square_most : (d : ℕ) → d ≤ 128 → d * d ≤ 16384
-square_most d h = mul-le-mul h h
-
-pub store_most : (n d : ℕ) → Ranges n d → n * (4 * d * d) ≤ 4194304
-store_most n d h = let s : 4 * d * d ≤ 65536 = omega (arith, square_most d h.1) in mul-le-mul h.0 s
+-- the numbers of an environment of that dimension, as floats
+pub entries_most : (d : ℕ) → d ≤ 128 → 2 * d * d ≤ 32768
+entries_most d h = omega (arith, mul-le-mul h h)

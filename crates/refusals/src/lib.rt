@@ -94,7 +94,7 @@ pub fn call_refusal(
 }
 
 // Of an environment walk, with a result slice of length `out` too.
-#[tactic(auto, using(crate::specs::Ranges::sound_passed))]
+#[tactic(auto, using(crate::specs::Ranges::sound_passed, crate::specs::Ranges::entries_most))]
 pub fn walk_refusal(chain: &Chain, store: usize, work: usize, out: usize, outside: bool) -> Answer
     ensures { result ≡ refusal_of (first_of (not (sound chain.now)) (ltb store (store_room chain.now.num_qubits chain.now.max_bond_dim) || ltb work (work_room chain.now.max_bond_dim) || ltb out (env_room chain.now.max_bond_dim)) outside false) }
 {

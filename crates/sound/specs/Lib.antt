@@ -1,2 +1,3 @@
--- Tests of every entry that ask something of the first ones alone.
+-- Tests of every entry that ask something of the first ones alone; what the first tests of a record say.
 pub mod First
+pub mod Tested

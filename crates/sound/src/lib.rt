@@ -24,6 +24,7 @@ pub fn is_share(x: f64) -> bool
 }
 
 // Whether start takes these settings. Every byte is an exponent that it takes.
+#[tactic(auto, unfolding(model::specs::Sound::settings_fit))]
 pub fn settings_fit(n: usize, d: usize, epsilon: f64, clamp: f64, exponent: u8) -> bool
     ensures { result ≡ settings_fit n d epsilon clamp exponent }
 {
@@ -38,7 +39,7 @@ fn zeros_from(xs: &[u8; 64], n: usize) -> bool
 {
     let mut ok = true;
     for x in &xs[n..] {
-        ok = ok & (*x == 0);
+        ok &= *x == 0;
     }
     ok
 }
@@ -52,7 +53,7 @@ fn bonds_within(bonds: &[u8; 64], n: usize, high: u8) -> bool
 {
     let mut ok = true;
     for x in &bonds[..n] {
-        ok = ok & ((1 <= *x) & (*x <= high));
+        ok &= (1 <= *x) & (*x <= high);
     }
     ok & zeros_from(bonds, n)
 }
@@ -65,7 +66,7 @@ fn neighbours_agree<'a>(right: &'a [u8; 64], left: &'a [u8; 64], n: usize) -> bo
 {
     let mut ok = true;
     for (a, b) in right[..n - 1].iter().zip(&left[1..]) {
-        ok = ok & (*a == *b);
+        ok &= *a == *b;
     }
     ok
 }
@@ -99,7 +100,7 @@ fn is_undone<'a>(there: &'a [u8; 64], back: &'a [u8; 64], n: usize) -> bool
 {
     let mut ok = true;
     for (i, s) in there[..n].iter().enumerate() {
-        ok = ok & comes_back(back, n, usize::from(*s), i);
+        ok &= comes_back(back, n, usize::from(*s), i);
     }
     ok & zeros_from(there, n)
 }
@@ -108,10 +109,7 @@ fn is_undone<'a>(there: &'a [u8; 64], back: &'a [u8; 64], n: usize) -> bool
 fn center_fits(center: Option<usize>, n: usize) -> bool
     ensures { result ≡ center_fits center n }
 {
-    match center {
-        None => true,
-        Some(k) => k < n,
-    }
+    center.is_none_or(|k| k < n)
 }
 
 // Whether the weights discarded past the last bond are +0, by their bits.
@@ -122,13 +120,14 @@ fn discarded_fits(bond_discarded: &[f64; 63], n: usize) -> bool
 {
     let mut ok = true;
     for x in &bond_discarded[n - 1..] {
-        ok = ok & (to_bits(*x) == 0);
+        ok &= to_bits(*x) == 0;
     }
     ok
 }
 
 // Whether a chain record is sound. The parts are looked at where the settings and the widest bond so
 // far fit, so that the chain's length is within the arrays and the widest bond is a byte.
+#[tactic(auto, using(crate::specs::Tested::tested), unfolding(model::specs::Sound::sound, model::specs::Sound::bonds_fit, model::specs::Sound::sized))]
 pub fn is_sound(chain: &Chain) -> bool
     ensures { result ≡ sound chain.now }
 {
