@@ -1,11 +1,10 @@
--- An attempt and a cut by their branches, and that each leaves the chain ready for the next.
-use Rattle.std.specs.Prelude.{ℕ, ◌+◌, ◌^◌, ◌<◌, ◌≤◌, ◌≡◌, Bool, false, ◌&&◌, ◌||◌, cond, List, ltb, length, Float, Option, Some, Ok, Err}
+-- An attempt and a cut by their branches.
+use Rattle.std.specs.Prelude.{ℕ, ◌+◌, ◌^◌, ◌<◌, ◌≤◌, ◌≡◌, Bool, false, ◌&&◌, ◌||◌, cond, List, ltb, Float, Option, Some, Ok, Err}
 use Rattle.std.proofs.Math.Path.{refl, sym, ap}
-use Rattle.std.proofs.Common.{◌∙◌, subst, true≢false, arith}
+use Rattle.std.proofs.Common.{◌∙◌, true≢false}
 use Rattle.std.proofs.Math.Bool.{true, not}
 use Rattle.complex.specs.declared.Complex.{Complex}
 use Rattle.model.specs.declared.Chain.{Chain}
-use Rattle.model.specs.declared.Reason.{Reason}
 use Rattle.model.specs.declared.WeightSide.{WeightSide}
 use Rattle.model.specs.declared.WeightSide.TheVariants.{Right}
 use Rattle.model.specs.Slots.{State, held, with_site}
@@ -15,41 +14,17 @@ use Rattle.model.specs.Pair.{left_site, right_site}
 use Rattle.model.specs.Moves.{Prepared, prepared, prepared_on, established}
 use Rattle.model.specs.Cut.{known, can_lose, keeps_centre, prepared_for, pair_of, rank_of, reason_in, Tried, tried, weight_site, cut_stored, cut_with, attempt, adjacent, attempt_reason, adjacent_reason}
 use Rattle.model.specs.Statements.Soundness.{Sound}
-use Rattle.model.proofs.Laws.MoveLaws.{established_narrowed, established_centre}
-use Rattle.model.proofs.Laws.SoundKept.{Keeps, narrowed_keeps, prepared_narrowed, adjacent_keeps}
+use Rattle.model.proofs.Laws.MoveLaws.{established_centre}
 use Rattle.model.proofs.Laws.CutEnds.{established_prepared, second_not_6}
 use Rattle.model.proofs.Laws.Tests.{either_way}
 use Rattle.truncation.specs.Shares.{shares_of}
-use Rattle.model.specs.Answers.{Applied}
 use Rattle.model.specs.declared.Bonds.{Bonds}
 use Rattle.cutting.specs.Shape.{shape_of, standing, nan_in, Stands}
 use Rattle.cutting.specs.Kept.{KeptOf}
-use Rattle.moves.specs.Ready.{Ready}
 use Rattle.cuts.specs.declared.Cut.{Cut}
 use Rattle.cuts.specs.Answered.{Answered, answered, answered_by, ran_of}
-use Rattle.cuts.specs.Pair.{pair_bonds, recorded_cut}
-
--- ---- what is left ready
-
-pub ready_keeps : (c r : Chain) (store out work room : List Float) → Ready c store work → Keeps c r → length out ≡ length store → length room ≡ length work → Ready r out room
-ready_keeps c r store out work room h x l m = record {
-  sound = x.sound;
-  store_room_lem = rw (x.qubits, x.cap, l) h.store_room_lem;
-  work_room_lem = rw (x.cap, m) h.work_room_lem;
-}
-
-module _ (c r : Chain) (store out : List Float) (h : Sound c) (k : ℕ) (inside : k + 1 < c.num_qubits) where
-  pub prepared_keeps : (side : WeightSide) → keeps_centre k (held c store) ≡ true → prepared side (held r out) ≡ prepared_on k c.center (held c store) → Keeps c r
-  prepared_keeps side e f =
-      let g : prepared_for k (held c store) ≡ prepared side (held r out) = ap (λ (b : Bool). cond b (prepared_on k c.center (held c store)) (prepared Right (held c store))) e ∙ sym f in
-      subst (λ (p : Prepared). Keeps c p.state.chain) g (narrowed_keeps (prepared_narrowed k (held c store) h inside))
-
-  pub established_keeps : held r out ≡ established k (held c store) → Keeps c r
-  established_keeps e = subst (λ (t : State). Keeps c t.chain) (sym e) (narrowed_keeps (established_narrowed k (held c store) h (omega arith)))
-
-  -- a cut
-  pub cut_kept : (gate : List (List Complex)) (a : Applied) (reason : Reason) → answered a (held r out) ≡ answered_by reason (adjacent gate k (held c store)) → Keeps c r
-  cut_kept gate a reason e = subst (λ (x : Answered). Keeps c x.state.chain) (sym e) (adjacent_keeps gate k (held c store) h inside)
+use Rattle.moves.specs.Bonds.{pair_bonds}
+use Rattle.cuts.specs.Pair.{recorded_cut}
 
 -- ---- one cut
 
@@ -74,43 +49,47 @@ stored_by side k w r at s =
     (with_site s.chain.max_bond_dim (k + 1) (right_site side r.kept.chi (pair_bonds s.chain k).right (standing r.pair.shape w r.pair.order))
     (with_site s.chain.max_bond_dim k (left_site side (pair_bonds s.chain k).left r.kept.chi (standing r.pair.shape w r.pair.order)) s.store))
 
-module _ (gate : List (List Complex)) (k : ℕ) (s : State) where
-  pub cut_nan : (maintained : Bool) (side : WeightSide) → nan_in (pair_of gate k s) ≡ true → cut_with gate k maintained (prepared side s) ≡ tried 7 false s
+-- s, and the same state after the decomposition
+module _ (gate : List (List Complex)) (k : ℕ) (s u : State) (same : u ≡ s) where
+  pub cut_nan : (maintained : Bool) (side : WeightSide) → nan_in (pair_of gate k u) ≡ true → cut_with gate k maintained (prepared side s) ≡ tried 7 false u
   unfolding cut_with
-  cut_nan maintained side z = rw z
+  cut_nan maintained side z = rw (← same, z)
 
-  module _ (w : List Float) (r : Cut) (h : CutOf gate k s w r) where
+  module _ (w : List Float) (r : Cut) (h : CutOf gate k u w r) where
     abbrev chi : ℕ
-    chi = rank s.chain.svd_epsilon s.chain.max_bond_dim (values (pair_of gate k s))
+    chi = rank u.chain.svd_epsilon u.chain.max_bond_dim (values (pair_of gate k u))
 
-    kept_share : shares_of r.kept.share ≡ share (values (pair_of gate k s)) chi
-    kept_share = h.kept.share ∙ ap (share (values (pair_of gate k s))) h.kept.rank
+    kept_share : shares_of r.kept.share ≡ share (values (pair_of gate k u)) chi
+    kept_share = h.kept.share ∙ ap (share (values (pair_of gate k u))) h.kept.rank
 
-    kept_lost : r.kept.resolvable ≡ resolvable (values (pair_of gate k s)) chi
-    kept_lost = h.kept.resolvable ∙ ap (resolvable (values (pair_of gate k s))) h.kept.rank
+    kept_lost : r.kept.resolvable ≡ resolvable (values (pair_of gate k u)) chi
+    kept_lost = h.kept.resolvable ∙ ap (resolvable (values (pair_of gate k u))) h.kept.rank
 
-    pub cut_again : r.kept.resolvable ≡ true → cut_with gate k false (prepared Right s) ≡ tried 0 true s
+    pub kept_reason : r.kept.reason ≡ reason_in gate k s
+    kept_reason = h.kept.reason ∙ ap (reason_in gate k) same
+
+    pub cut_again : r.kept.resolvable ≡ true → cut_with gate k false (prepared Right s) ≡ tried 0 true u
     unfolding cut_with
-    cut_again t = rw (h.number, sym kept_lost ∙ t)
+    cut_again t = rw (← same, h.number, sym kept_lost ∙ t)
 
     pub cut_stored_lem : (maintained : Bool) (side : WeightSide) → not maintained && r.kept.resolvable ≡ false
-        → cut_with gate k maintained (prepared side s) ≡ tried 0 false (stored_by side k w r (cond maintained (Some (weight_site side k)) s.chain.center) s)
+        → cut_with gate k maintained (prepared side s) ≡ tried 0 false (stored_by side k w r (cond maintained (Some (weight_site side k)) u.chain.center) u)
     unfolding cut_with
     cut_stored_lem maintained side t =
         let y = ap (λ (x : Bool). not maintained && x) (sym kept_lost) ∙ t in
-        rw (h.number, y, kept_share, h.kept.rank, h.whole)
+        rw (← same, h.number, y, kept_share, h.kept.rank, h.whole)
 
 -- ---- the cut of a pair that the centre is on
 
 abbrev pub prepared_by : List (List Complex) → ℕ → Prepared → Answered
 prepared_by gate k p = answered_by (reason_in gate k p.state) (ran_of (cut_with gate k true p))
 
-module _ (gate : List (List Complex)) (k : ℕ) (s : State) (side : WeightSide) where
-  pub prepared_nan : nan_in (pair_of gate k s) ≡ true → answered (Err 7) s ≡ prepared_by gate k (prepared side s)
-  prepared_nan z = rw (cut_nan gate k s true side z)
+module _ (gate : List (List Complex)) (k : ℕ) (s u : State) (same : u ≡ s) (side : WeightSide) where
+  pub prepared_nan : nan_in (pair_of gate k u) ≡ true → answered (Err 7) u ≡ prepared_by gate k (prepared side s)
+  prepared_nan z = rw (cut_nan gate k s u same true side z)
 
-  pub prepared_stored : (w : List Float) (r : Cut) → CutOf gate k s w r → answered (Ok r.kept.reason) (stored_by side k w r (Some (weight_site side k)) s) ≡ prepared_by gate k (prepared side s)
-  prepared_stored w r h = rw (cut_stored_lem gate k s w r h true side refl, h.kept.reason)
+  pub prepared_stored : (w : List Float) (r : Cut) → CutOf gate k u w r → answered (Ok r.kept.reason) (stored_by side k w r (Some (weight_site side k)) u) ≡ prepared_by gate k (prepared side s)
+  prepared_stored w r h = rw (cut_stored_lem gate k s u same w r h true side refl, kept_reason gate k s u same w r h)
 
 -- ---- an attempt by its branches
 
@@ -224,6 +203,6 @@ module _ (gate : List (List Complex)) (k : ℕ) (s : State) (b : Bonds) (eb : b 
         again_answers : prepared_by gate k (prepared Right second) ≡ adjacent_by gate k s
         again_answers = ap (prepared_by gate k) (sym (established_prepared k s)) ∙ kept_answers gate k second room centre ∙ made_again
 
-      pub twice : Sound s.chain → k + 1 < s.chain.num_qubits → cut_with gate k false (prepared Right s) ≡ tried 0 true s
-          → (x : Answered) (u : State) → u ≡ established k s → x ≡ prepared_by gate k (prepared Right u) → x ≡ adjacent_by gate k s
-      twice h inside z x u e f = f ∙ ap (λ (v : State). prepared_by gate k (prepared Right v)) e ∙ again_answers h inside (ap (λ (t : Tried). t.again) z)
+      pub twice : Sound s.chain → k + 1 < s.chain.num_qubits → (u : State) → u ≡ s → cut_with gate k false (prepared Right s) ≡ tried 0 true u
+          → (x : Answered) (v : State) → v ≡ established k u → x ≡ prepared_by gate k (prepared Right v) → x ≡ adjacent_by gate k s
+      twice h inside u same z x v e f = f ∙ ap (λ (t : State). prepared_by gate k (prepared Right t)) (e ∙ ap (established k) same) ∙ again_answers h inside (ap (λ (t : Tried). t.again) z)

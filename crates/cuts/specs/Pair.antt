@@ -1,5 +1,5 @@
--- A pair of neighbours: its bonds, room to cut it, and the record after the cut.
-use Rattle.std.specs.Prelude.{ℕ, ◌+◌, ◌*◌, ◌%◌, ◌^◌, ◌≤◌, ◌<◌, min, ◌≡◌, List, ltb, length, get_or, Float, Option}
+-- A pair of neighbours: room to cut it, and the record after the cut.
+use Rattle.std.specs.Prelude.{ℕ, ◌+◌, ◌*◌, ◌%◌, ◌^◌, ◌≤◌, ◌<◌, min, ◌≡◌, refl, List, ltb, length, Float, Option}
 use Rattle.std.proofs.Common.{ap, sym, ◌∙◌, mul-le-mul, mod-eq_of_lt, arith, le-ltb}
 use Rattle.std.proofs.Math.Nat.{min-eq_right, pow-le-pow_right}
 use Rattle.std.proofs.Math.Decide.{dec_lt}
@@ -10,27 +10,24 @@ use Rattle.model.specs.Chain.{with_center, with_bond}
 use Rattle.model.specs.Cut.{cut_recorded}
 use Rattle.model.specs.Truncation.{workspace}
 use Rattle.model.specs.Slots.{slot_room, slot_of}
+use Rattle.model.proofs.Laws.SoundChanges.{center_sound, bond_sound, recorded_sound}
 use Rattle.cutting.specs.Shape.{shape_of, room, room_fits}
 use Rattle.model.specs.declared.Bonds.{Bonds}
-use Rattle.moves.specs.Ready.{Ready, pair_right}
+use Rattle.moves.specs.Bonds.{Bytes}
+use Rattle.moves.specs.Ready.{Ready, Stays}
 use Rattle.moves.specs.Steps.{Pair, first_slot, second_slot, second_after}
-
--- the bonds of the sites k and k + 1, in the lists of left and right bonds
-abbrev pub bonds_at : List ℕ → List ℕ → ℕ → Bonds
-bonds_at left right k = record { left = get_or left k 0; mid = get_or right k 0; right = get_or right (k + 1) 0 }
-
-abbrev pub pair_bonds : Chain → ℕ → Bonds
-pair_bonds c k = bonds_at c.bond_left c.bond_right k
-
--- each of them is a byte
-pub record Bytes (b : Bonds) : Type 0 where
-  pub left : b.left ≤ 255
-  pub mid : b.mid ≤ 255
-  pub right : b.right ≤ 255
 
 -- the bond, the widest bond so far, the weights discarded so far, the chain's and the bond's, with a cut's shares added, and the centre
 abbrev pub recorded_cut : Chain → ℕ → ℕ → List Float → Option ℕ → Chain
 recorded_cut c k chi shares at = with_center (cut_recorded k chi shares (with_bond c k chi)) at
+
+-- it is sound
+pub cut_stays : {c : Chain} {store out work : List Float} → Ready c store work → (k : ℕ) → k + 1 < c.num_qubits → (chi : ℕ) (shares : List Float) → 1 ≤ chi → chi ≤ c.max_bond_dim → length out ≡ length store
+    → Stays c (recorded_cut c k chi shares c.center) store out work work
+cut_stays {c} h k l chi shares least most n =
+    let x = recorded_sound c h.sound k chi shares l most in
+    let y = bond_sound (cut_recorded k chi shares c) x k chi l least (omega arith) in
+    record { sound = center_sound (with_bond (cut_recorded k chi shares c) k chi) y c.center h.sound.centre; qubits = refl; cap = refl; store_length = n; work_length = refl }
 
 -- the numbers that a cut of these bonds works in
 abbrev needed : Bonds → ℕ
@@ -54,11 +51,6 @@ shifted e m b em h =
         let more : 2 ^ 63 ≤ 2 ^ e = pow-le-pow_right {n = 2} (omega arith) past in
         let l : needed b ≤ 2 ^ 63 = omega (arith, products_most b h) in
         rw (min-eq_right past) (le-ltb (2 ^ 63) (needed b) l ∙ sym (le-ltb (2 ^ e) (needed b) (omega arith)))
-
--- a chain that is ready has room to cut each two neighbours
-pub pair_of : (c : Chain) (store work : List Float) → Ready c store work → (k : ℕ) → k + 1 < c.num_qubits → (b : Bonds) → b ≡ pair_bonds c k → Pair c.max_bond_dim k b.left b.mid b.right store work
-pair_of c store work h k l b e =
-    pair_right c store work h k l b.left b.mid b.right (ap (λ (x : Bonds). x.left) e) (ap (λ (x : Bonds). x.right) e) (ap (λ (x : Bonds). x.mid) e)
 
 module _ (d k bl mid br : ℕ) (store work : List Float) (p : Pair d k bl mid br store work) where
   -- another bond within the cap between them, and a work slice of the same length

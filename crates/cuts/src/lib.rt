@@ -2,39 +2,27 @@
 #![tactic(auto)]
 
 ghost use Rattle.std.specs.Prelude.{◌≡◌, true, ◌||◌, ◌+◌, ◌^◌, ◌<◌, ◌≤◌, IfOk, IfErr, IfSome, is_none, ltb};
-ghost use Rattle.model.specs.Slots.{held, with_site};
+ghost use Rattle.model.specs.Slots.{with_site};
 ghost use Rattle.model.specs.Truncation.{recorded, cut_rank, workspace};
 ghost use Rattle.model.specs.Pair.{left_site, right_site};
 ghost use Rattle.model.specs.Moves.{prepared, prepared_on};
 ghost use Rattle.model.specs.Cut.{known, can_lose, keeps_centre, pair_of, weight_site, adjacent, adjacent_reason};
 ghost use Rattle.truncation.specs.Shares.{shares_of};
 ghost use Rattle.cutting.specs.Shape.{shape_of, standing, nan_in, Stands, Made};
-ghost use Rattle.moves.specs.Ready.{Ready};
+ghost use Rattle.moves.specs.Mps.{state, Same, Becomes};
+ghost use Rattle.moves.specs.Bonds.{pair_bonds, Bytes};
 ghost use Rattle.moves.specs.Steps.{Pair};
-ghost use Rattle.cuts.specs.Pair.{pair_bonds, Bytes, recorded_cut};
+ghost use Rattle.cuts.specs.Pair.{recorded_cut};
 ghost use Rattle.cuts.specs.Answered.{answered, answered_by};
 ghost use Rattle.cuts.specs.Attempts.{CutOf, Storable, stored_by, prepared_by};
 
 use complex::Complex;
 use cutting::{Decomposed, Kept, decompose, kept_values, store_left, store_right};
 use model::{Applied, Bonds, Chain, WeightSide};
-use moves::{establish_center, pair_slots, prepare_center};
+use moves::{Mps, pair_bonds, pair_slots};
 use pair::Neighbours;
 
-// ---- the bonds of a pair, and the tests before a cut
-
-// The bonds of the sites k and k + 1.
-fn pair_bonds(chain: &Chain, k: usize) -> Bonds
-    requires { k < 63 }
-    ensures value { result ≡ pair_bonds chain.now k }
-    ensures bytes { Bytes result }
-{
-    Bonds {
-        left: usize::from(chain.bond_left[k]),
-        mid: usize::from(chain.bond_right[k]),
-        right: usize::from(chain.bond_right[k + 1]),
-    }
-}
+// ---- the tests before a cut
 
 // Whether a cut of these bonds needs more numbers than the setting allows. Bonds that are bytes need
 // fewer than 2^63, so that from 63 on every exponent allows the same.
@@ -67,26 +55,23 @@ fn keeps_center(chain: &Chain, bonds: Bonds) -> bool
 // ---- one cut
 
 // The pair k, k + 1 with the gate on it, decomposed at the front of the work slice; nothing where one of its values is a NaN.
-fn decompose_pair(
-    chain: &Chain,
-    store: &[f64],
-    work: &mut [f64],
-    gate: [[Complex; 4]; 4],
-    k: usize,
-) -> Option<Decomposed>
-    requires ready { Ready chain.now store.now work.old }
-    requires k_bound { k + 1 < chain.now.num_qubits }
-    ensures nan { is_none result ≡ nan_in (pair_of gate k (held chain.now store.now)) }
-    ensures made { let b = pair_bonds chain.now k in IfSome result (Made b.left b.right (pair_of gate k (held chain.now store.now)) work.new) }
+fn decompose_pair(mps: &mut Mps, gate: [[Complex; 4]; 4], k: usize) -> Option<Decomposed>
+    requires { k + 1 < mps.old.chain.now.num_qubits }
+    ensures unchanged { state mps.new ≡ state mps.old }
+    ensures nan { is_none result ≡ nan_in (pair_of gate k (state mps.new)) }
+    ensures made { let b = pair_bonds mps.new.chain.now k in IfSome result (Made b.left b.right (pair_of gate k (state mps.new)) mps.new.work.now) }
+    ensures place { Same mps.old mps.new }
 {
-    let at = pair_slots(chain.max_bond_dim, k);
+    let at = pair_slots(mps.chain.max_bond_dim, k);
+    let store = &mut *mps.store;
+    let work = &mut *mps.work;
     let pair = Neighbours {
         left: &store[at.left..at.left_end],
         right: &store[at.right..at.right_end],
         gate: &gate,
-        bonds: pair_bonds(chain, k),
+        bonds: pair_bonds(mps.chain, k),
     };
-    decompose(&pair, work, chain.norm_clamp_min)
+    decompose(&pair, work, mps.chain.norm_clamp_min)
 }
 
 // A decomposition, and what is kept of its values.
@@ -97,20 +82,16 @@ struct Cut {
 }
 
 // The cut of the sites k and k + 1 as they stand, before anything is stored; refused by 7 at a NaN among its values.
-fn cut_pair(
-    chain: &Chain,
-    store: &[f64],
-    work: &mut [f64],
-    gate: [[Complex; 4]; 4],
-    k: usize,
-) -> Result<Cut, u8>
-    requires ready { Ready chain.now store.now work.old }
-    requires k_bound { k + 1 < chain.now.num_qubits }
-    ensures nan { IfErr result (λ n. (n ≡ 7) × (nan_in (pair_of gate k (held chain.now store.now)) ≡ true)) }
-    ensures cut { IfOk result (CutOf gate k (held chain.now store.now) work.new) }
+fn cut_pair(mps: &mut Mps, gate: [[Complex; 4]; 4], k: usize) -> Result<Cut, u8>
+    requires { k + 1 < mps.old.chain.now.num_qubits }
+    ensures unchanged { state mps.new ≡ state mps.old }
+    ensures nan { IfErr result (λ n. (n ≡ 7) × (nan_in (pair_of gate k (state mps.new)) ≡ true)) }
+    ensures cut { IfOk result (CutOf gate k (state mps.new) mps.new.work.now) }
+    ensures place { Same mps.old mps.new }
 {
-    let pair = decompose_pair(chain, store, work, gate, k).ok_or(7)?;
-    let kept = kept_values(work, &pair, chain.svd_epsilon, chain.max_bond_dim);
+    let pair = decompose_pair(mps, gate, k).ok_or(7)?;
+    let work = &mut *mps.work;
+    let kept = kept_values(work, &pair, mps.chain.svd_epsilon, mps.chain.max_bond_dim);
     Ok(Cut { pair, kept })
 }
 
@@ -156,26 +137,21 @@ fn record_cut(chain: &mut Chain, k: usize, kept: Kept)
 }
 
 // The cut stored, its weight on one side; the centre stays where it is recorded.
-fn store_cut(
-    chain: &mut Chain,
-    store: &mut [f64],
-    work: &[f64],
-    cut: &Cut,
-    k: usize,
-    side: WeightSide,
-)
-    requires ready { Ready chain.old store.old work.now }
-    requires k_bound { k + 1 < chain.old.num_qubits }
-    requires cut_value { Storable k chain.old work.now cut.now }
-    ensures { held chain.new store.new ≡ stored_by side k work.now cut.now chain.old.center (held chain.old store.old) }
+fn store_cut(mps: &mut Mps, cut: &Cut, k: usize, side: WeightSide)
+    requires k_bound { k + 1 < mps.old.chain.now.num_qubits }
+    requires cut_value { Storable k mps.old.chain.now mps.old.work.now cut.now }
+    ensures { Becomes (stored_by side k mps.old.work.now cut.now mps.old.chain.now.center (state mps.old)) mps.old mps.new }
 {
-    let before = pair_bonds(chain, k);
+    let before = pair_bonds(mps.chain, k);
     let after = Bonds {
         mid: cut.kept.chi,
         ..before
     };
-    store_pair(store, work, &cut.pair, side, chain.max_bond_dim, k, after);
-    record_cut(chain, k, cut.kept);
+    let d = mps.chain.max_bond_dim;
+    let store = &mut *mps.store;
+    let work = &mut *mps.work;
+    store_pair(store, work, &cut.pair, side, d, k, after);
+    record_cut(mps.chain, k, cut.kept);
 }
 
 // The site of the pair that carries the weight.
@@ -190,67 +166,48 @@ fn weight_site(side: WeightSide, k: usize) -> usize
 }
 
 // The cut of a pair that the centre is on, which is left on the given side.
-fn cut_prepared(
-    chain: &mut Chain,
-    store: &mut [f64],
-    work: &mut [f64],
-    gate: [[Complex; 4]; 4],
-    k: usize,
-    side: WeightSide,
-) -> Applied
-    requires ready { Ready chain.old store.old work.old }
-    requires k_bound { k + 1 < chain.old.num_qubits }
-    ensures { answered result (held chain.new store.new) ≡ prepared_by gate k (prepared side (held chain.old store.old)) }
+fn cut_prepared(mps: &mut Mps, gate: [[Complex; 4]; 4], k: usize, side: WeightSide) -> Applied
+    requires { k + 1 < mps.old.chain.now.num_qubits }
+    ensures value { answered result (state mps.new) ≡ prepared_by gate k (prepared side (state mps.old)) }
+    ensures place { Same mps.old mps.new }
 {
-    let cut = cut_pair(chain, store, work, gate, k)?;
-    store_cut(chain, store, work, &cut, k, side);
-    chain.center = Some(weight_site(side, k));
+    let cut = cut_pair(mps, gate, k)?;
+    store_cut(mps, &cut, k, side);
+    mps.chain.center = Some(weight_site(side, k));
     Ok(cut.kept.reason)
 }
 
 // The cut with the centre brought onto the pair first, which can narrow its bonds.
-fn cut_centered(
-    chain: &mut Chain,
-    store: &mut [f64],
-    work: &mut [f64],
-    gate: [[Complex; 4]; 4],
-    k: usize,
-) -> Applied
-    requires ready { Ready chain.old store.old work.old }
-    requires k_bound { (k + 1 < chain.old.num_qubits) × (keeps_centre k (held chain.old store.old) ≡ true) }
-    ensures { answered result (held chain.new store.new) ≡ prepared_by gate k (prepared_on k chain.old.center (held chain.old store.old)) }
+fn cut_centered(mps: &mut Mps, gate: [[Complex; 4]; 4], k: usize) -> Applied
+    requires { (k + 1 < mps.old.chain.now.num_qubits) × (keeps_centre k (state mps.old) ≡ true) }
+    ensures value { answered result (state mps.new) ≡ prepared_by gate k (prepared_on k mps.old.chain.now.center (state mps.old)) }
+    ensures place { Same mps.old mps.new }
 {
-    let side = prepare_center(chain, store, work, k);
-    cut_prepared(chain, store, work, gate, k, side)
+    let side = mps.prepare_center(k);
+    cut_prepared(mps, gate, k, side)
 }
 
 // A gate on the sites k and k + 1: refused by 6 above the workspace; else the cut, with a centre where one is kept. Where
 // weight would be lost without one, a centre is established and the cut made again; no bond is wider then, so 6 is not
 // asked again.
-pub fn apply_adjacent_two_qubit(
-    chain: &mut Chain,
-    store: &mut [f64],
-    work: &mut [f64],
-    gate: [[Complex; 4]; 4],
-    k: usize,
-) -> Applied
-    requires ready { Ready chain.old store.old work.old }
-    requires k_bound { k + 1 < chain.old.num_qubits }
-    ensures { let s = held chain.old store.old in answered result (held chain.new store.new) ≡ answered_by (adjacent_reason gate k s) (adjacent gate k s) }
+pub fn apply_adjacent_two_qubit(mps: &mut Mps, gate: [[Complex; 4]; 4], k: usize) -> Applied
+    requires { k + 1 < mps.old.chain.now.num_qubits }
+    ensures value { let s = state mps.old in answered result (state mps.new) ≡ answered_by (adjacent_reason gate k s) (adjacent gate k s) }
+    ensures place { Same mps.old mps.new }
 {
-    let bonds = pair_bonds(chain, k);
-    if workspace_exceeded(chain.workspace_exponent, bonds) {
+    let bonds = pair_bonds(mps.chain, k);
+    if workspace_exceeded(mps.chain.workspace_exponent, bonds) {
         return Err(6);
     }
-    if keeps_center(chain, bonds) {
-        return cut_centered(chain, store, work, gate, k);
+    if keeps_center(mps.chain, bonds) {
+        return cut_centered(mps, gate, k);
     }
-    let cut = cut_pair(chain, store, work, gate, k)?;
+    let cut = cut_pair(mps, gate, k)?;
     let loses = cut.kept.resolvable;
     if loses {
-        establish_center(chain, store, work, k);
-        return cut_prepared(chain, store, work, gate, k, WeightSide::Right);
+        mps.establish_center(k);
+        return cut_prepared(mps, gate, k, WeightSide::Right);
     }
-    store_cut(chain, store, work, &cut, k, WeightSide::Right);
+    store_cut(mps, &cut, k, WeightSide::Right);
     Ok(cut.kept.reason)
 }

@@ -8,13 +8,13 @@ use Rattle.cuts.specs.Answered.{answered}
 use Rattle.cuts.specs.Attempts.{prepared_nan, prepared_stored}
 use Rattle.cuts.proofs.cut_prepared.Goals as goal
 
-pub returns-in_err-cut : goal.returns-in_err-cut
-returns-in_err-cut c = let p = err_from_is_err_and c.from_residual.result c.from_residual.ensures.1 in let n = c.in_err-cut.ensures.nan in
-    rw (p.1, p.2, n.0) (prepared_nan c.args.gate c.args.k (held c.args.chain.now c.args.store.now) c.args.side n.1)
+pub returns-in_err-cut-clause-value : goal.returns-in_err-cut-clause-value
+returns-in_err-cut-clause-value c = let p = err_from_is_err_and c.from_residual.result c.from_residual.ensures.1 in let n = c.in_err-cut.ensures.nan in
+    rw (p.1, p.2, n.0) (prepared_nan _ _ _ _ c.cut_pair.ensures.unchanged _ n.1)
 
-pub returns : goal.returns
-returns c =
+pub returns-clause-value : goal.returns-clause-value
+returns-clause-value c =
     let a = c.args in
     let centred : State → State = λ t. held (with_center t.chain (Some (weight_site a.side a.k))) t.store in
     rw c.weight_site.ensures
-    (ap (λ (t : State). answered (Ok c.in_ok-cut.cut.kept.reason) (centred t)) c.store_cut.ensures ∙ prepared_stored a.gate a.k (held a.chain.now a.store.now) a.side _ _ c.in_ok-cut.ensures.cut)
+    (ap (λ (t : State). answered (Ok c.in_ok-cut.cut.kept.reason) (centred t)) c.store_cut.ensures.value ∙ prepared_stored _ _ _ _ c.cut_pair.ensures.unchanged _ _ _ c.in_ok-cut.ensures.cut)
