@@ -36,9 +36,10 @@ fn try_start(
     requires { chain.old ≡ zero_chain }
     ensures { started result chain.new store.new ≡ start_call n d epsilon clamp exponent store.old }
 {
-    start_refusal(n, d, epsilon, clamp, exponent, store.len())?;
+    let fresh = fresh_chain(n, d, epsilon, clamp, exponent);
+    start_refusal(&fresh, store.len())?;
     fresh_store(store, n, d);
-    *chain = fresh_chain(n, d, epsilon, clamp, exponent);
+    *chain = fresh;
     Ok(())
 }
 

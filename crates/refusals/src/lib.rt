@@ -53,22 +53,15 @@ fn first_of(short: bool, outside: bool, improper: bool) -> Answer
     }
 }
 
-// Of start, with a store of this length.
+// Of start, by the record that it is to leave, with a store of this length.
 #[tactic(auto, using(crate::specs::Ranges::settings_passed))]
-pub fn start_refusal(
-    n: usize,
-    d: usize,
-    epsilon: f64,
-    clamp: f64,
-    exponent: u8,
-    store: usize,
-) -> Answer
-    ensures { result ≡ refusal_of (cond (not (settings_fit n d epsilon clamp exponent)) 1 (cond (ltb store (store_room n d)) 2 0)) }
+pub fn start_refusal(fresh: &Chain, store: usize) -> Answer
+    ensures { let c = fresh.now in result ≡ refusal_of (cond (not (settings_fit c.num_qubits c.max_bond_dim c.svd_epsilon c.norm_clamp_min c.workspace_exponent)) 1 (cond (ltb store (store_room c.num_qubits c.max_bond_dim)) 2 0)) }
 {
-    if !settings_fit(n, d, epsilon, clamp, exponent) {
+    if !settings_fit(fresh) {
         return Err(1);
     }
-    if store < store_room(n, d) {
+    if store < store_room(fresh.num_qubits, fresh.max_bond_dim) {
         Err(2)
     } else {
         Ok(())

@@ -23,12 +23,17 @@ pub fn is_share(x: f64) -> bool
     (0.0 <= x) & (x < 1.0)
 }
 
-// Whether start takes these settings. Every byte is an exponent that it takes.
+// Whether start takes the settings of a record. The exponent is read since it is then known to be a byte, and every byte
+// is one that it takes.
 #[tactic(auto, unfolding(model::specs::Sound::settings_fit))]
-pub fn settings_fit(n: usize, d: usize, epsilon: f64, clamp: f64, exponent: u8) -> bool
-    ensures { result ≡ settings_fit n d epsilon clamp exponent }
+pub fn settings_fit(chain: &Chain) -> bool
+    ensures { let c = chain.now in result ≡ settings_fit c.num_qubits c.max_bond_dim c.svd_epsilon c.norm_clamp_min c.workspace_exponent }
 {
-    is_within(1, 64, n) & is_within(1, 128, d) & is_share(epsilon) & is_share(clamp)
+    let _exponent = chain.workspace_exponent;
+    is_within(1, 64, chain.num_qubits)
+        & is_within(1, 128, chain.max_bond_dim)
+        & is_share(chain.svd_epsilon)
+        & is_share(chain.norm_clamp_min)
 }
 
 // Whether the entries from n on are 0. This loop and those below leave no entry out, so that many are compared at once.
@@ -133,14 +138,7 @@ pub fn is_sound(chain: &Chain) -> bool
 {
     let n = chain.num_qubits;
     let high = chain.bond_high_water;
-    if settings_fit(
-        n,
-        chain.max_bond_dim,
-        chain.svd_epsilon,
-        chain.norm_clamp_min,
-        chain.workspace_exponent,
-    ) & is_within(1, chain.max_bond_dim, high)
-    {
+    if settings_fit(chain) & is_within(1, chain.max_bond_dim, high) {
         bonds_fit(&chain.bond_left, &chain.bond_right, n, high as u8)
             & is_undone(&chain.logical_to_site, &chain.site_to_logical, n)
             & is_undone(&chain.site_to_logical, &chain.logical_to_site, n)
