@@ -20,7 +20,7 @@ pub fn sum_squares(w: &[f64], base: usize, n: usize) -> f64
 {
     let mut sum = 0.0;
     for k in 0..n {
-        sum = sum + complex_at(w, base + k).norm_sqr();
+        sum += complex_at(w, base + k).norm_sqr();
     }
     sum
 }

@@ -78,7 +78,7 @@ fn sum_squares_from(s: &[f64], from: usize) -> f64
 {
     let mut sum = 0.0;
     for x in &s[from..] {
-        sum = sum + x * x;
+        sum += x * x;
     }
     sum
 }
