@@ -33,7 +33,7 @@ pub fn weight(site: &[f64], bl: usize, br: usize, o: bool) -> f64
     let row = row_at(o, br);
     let mut sum = 0.0;
     for a in 0..bl {
-        sum = sum + sum_squares(site, a * (2 * br) + row, br);
+        sum += sum_squares(site, a * (2 * br) + row, br);
     }
     sum
 }
