@@ -3,10 +3,9 @@
 
 ghost use Rattle.std.specs.Prelude.{◌≡◌, ◌≢◌, cond, ◌+◌, ◌-◌, ◌<◌, ltb};
 ghost use Rattle.gates.specs.Gate.{swap_gate_qubits};
-ghost use Rattle.model.specs.Slots.{held};
 ghost use Rattle.model.specs.Routing.{relabelled, swap_step, stepped, gate_run, gate_reason};
 ghost use Rattle.model.specs.Statements.Soundness.{Sound};
-ghost use Rattle.moves.specs.Ready.{Ready};
+ghost use Rattle.moves.specs.Mps.{state, Same};
 ghost use Rattle.cuts.specs.Answered.{answered, answered_by};
 ghost use Rattle.routing.specs.Runs.{passed, passed_by, swaps_down, routed_gate, routed_reason};
 
@@ -14,6 +13,7 @@ use complex::Complex;
 use cuts::apply_adjacent_two_qubit;
 use gates::{NamedGate, swap_gate_qubits};
 use model::{Answer, Applied, Chain};
+use moves::Mps;
 
 // ---- swaps
 
@@ -32,52 +32,37 @@ fn swap_layout_labels(chain: &mut Chain, left_site: usize)
 }
 
 // One swap of the route: the cut, then the labels.
-fn swap_step(chain: &mut Chain, store: &mut [f64], work: &mut [f64], k: usize) -> Answer
-    requires ready { Ready chain.old store.old work.old }
-    requires k_bound { k + 1 < chain.old.num_qubits }
-    ensures { passed result (held chain.new store.new) ≡ passed_by (stepped (swap_step k) (held chain.old store.old)) }
+fn swap_step(mps: &mut Mps, k: usize) -> Answer
+    requires { k + 1 < mps.old.chain.now.num_qubits }
+    ensures value { passed result (state mps.new) ≡ passed_by (stepped (swap_step k) (state mps.old)) }
+    ensures place { Same mps.old mps.new }
 {
     let gate = NamedGate::Swap.matrix_4x4();
-    let _reason = apply_adjacent_two_qubit(chain, store, work, gate, k)?;
-    swap_layout_labels(chain, k);
+    let _reason = apply_adjacent_two_qubit(mps, gate, k)?;
+    swap_layout_labels(mps.chain, k);
     Ok(())
 }
 
 // The swaps at far - 1, .., near + 1, up to the first that is refused.
-fn route_swaps(
-    chain: &mut Chain,
-    store: &mut [f64],
-    work: &mut [f64],
-    near: usize,
-    far: usize,
-) -> Answer
-    requires ready { Ready chain.old store.old work.old }
-    requires near_lt_far { (near < far) × (far < chain.old.num_qubits) }
-    ensures { passed result (held chain.new store.new) ≡ passed_by (swaps_down near (far - (near + 1)) (held chain.old store.old)) }
+fn route_swaps(mps: &mut Mps, near: usize, far: usize) -> Answer
+    requires { (near < far) × (far < mps.old.chain.now.num_qubits) }
+    ensures value { passed result (state mps.new) ≡ passed_by (swaps_down near (far - (near + 1)) (state mps.old)) }
+    ensures place { Same mps.old mps.new }
 {
     for at in (near + 1..far).rev() {
-        swap_step(chain, store, work, at)?;
+        swap_step(mps, at)?;
     }
     Ok(())
 }
 
 // The swaps, then the gate at the near site.
-fn route_gate(
-    chain: &mut Chain,
-    store: &mut [f64],
-    work: &mut [f64],
-    gate: [[Complex; 4]; 4],
-    near: usize,
-    far: usize,
-) -> Applied
-    requires ready { Ready chain.old store.old work.old }
-    requires near_lt_far { (near < far) × (far < chain.old.num_qubits) }
-    ensures { let s = held chain.old store.old in answered result (held chain.new store.new) ≡ answered_by (routed_reason gate near (far - (near + 1)) s) (routed_gate gate near (far - (near + 1)) s) }
+fn route_gate(mps: &mut Mps, gate: [[Complex; 4]; 4], near: usize, far: usize) -> Applied
+    requires { (near < far) × (far < mps.old.chain.now.num_qubits) }
+    ensures value { let s = state mps.old in answered result (state mps.new) ≡ answered_by (routed_reason gate near (far - (near + 1)) s) (routed_gate gate near (far - (near + 1)) s) }
+    ensures place { Same mps.old mps.new }
 {
-    match route_swaps(chain, store, work, near, far) {
-        Ok(()) => apply_adjacent_two_qubit(chain, store, work, gate, near),
-        Err(number) => Err(number),
-    }
+    route_swaps(mps, near, far)?;
+    apply_adjacent_two_qubit(mps, gate, near)
 }
 
 // ---- the gate between its qubits
@@ -90,20 +75,13 @@ fn gate_between(gate: [[Complex; 4]; 4], p: usize, q: usize) -> [[Complex; 4]; 4
 }
 
 // The gate on the qubits q0 and q1.
-pub fn apply_two_qubit_gate(
-    chain: &mut Chain,
-    store: &mut [f64],
-    work: &mut [f64],
-    gate: [[Complex; 4]; 4],
-    q0: usize,
-    q1: usize,
-) -> Applied
-    requires ready { Ready chain.old store.old work.old }
-    requires q0_bound { (q0 < chain.old.num_qubits) × (q1 < chain.old.num_qubits) × (q0 ≢ q1) }
-    ensures { let s = held chain.old store.old in answered result (held chain.new store.new) ≡ answered_by (gate_reason gate q0 q1 s) (gate_run gate q0 q1 s) }
+pub fn apply_two_qubit_gate(mps: &mut Mps, gate: [[Complex; 4]; 4], q0: usize, q1: usize) -> Applied
+    requires { (q0 < mps.old.chain.now.num_qubits) × (q1 < mps.old.chain.now.num_qubits) × (q0 ≢ q1) }
+    ensures value { let s = state mps.old in answered result (state mps.new) ≡ answered_by (gate_reason gate q0 q1 s) (gate_run gate q0 q1 s) }
+    ensures place { Same mps.old mps.new }
 {
-    let p = usize::from(chain.logical_to_site[q0]);
-    let q = usize::from(chain.logical_to_site[q1]);
+    let p = usize::from(mps.chain.logical_to_site[q0]);
+    let q = usize::from(mps.chain.logical_to_site[q1]);
     let turned = gate_between(gate, p, q);
-    route_gate(chain, store, work, turned, p.min(q), p.max(q))
+    route_gate(mps, turned, p.min(q), p.max(q))
 }
