@@ -1,5 +1,5 @@
 -- One bit of a site kept: its amplitudes, times a number, at one bit, and +0 at the other. Projection keeps the bit where it was, reset puts it at bit 0.
-use Rattle.std.specs.Prelude.{◌≡◌, refl, Bool, true, false, not, ◌≢◌, ℕ, ◌+◌, ◌-◌, ◌*◌, ◌≤◌, ◌<◌, eqb, length, take, replicate, Float}
+use Rattle.std.specs.Prelude.{◌≡◌, refl, Bool, true, false, not, ◌&&◌, ◌≢◌, ℕ, ◌+◌, ◌-◌, ◌*◌, ◌≤◌, ◌<◌, eqb, length, take, replicate, Float}
 use Rattle.std.proofs.Common.{sym, ◌∙◌, ⊎_elim, add_assoc, eqb-true, length-append, drop_at}
 use Rattle.std.proofs.Math.Path.{ap}
 use Rattle.std.proofs.Math.Bool.{cond}
@@ -26,7 +26,7 @@ unfoldable pub kept_site : ℕ → ℕ → Bool → Bool → Complex → List Fl
 kept_site bl br from to by site = rows bl (λ a. rows 2 (λ i. numbers br (λ b. cond (eqb i (bit_of to)) (mul_c (amplitude site br a (bit_of from) b) by) zero_c)))
 
 -- one number of both rows: it is read before its place is stored to
-abbrev pub keep_step : ℕ → Bool → Bool → Complex → ℕ → List Float → List Float
+unfoldable pub keep_step : ℕ → Bool → Bool → Complex → ℕ → List Float → List Float
 keep_step br from to by b ys = store (store ys (bit_of (not to) * br + b) zero_c) (bit_of to * br + b) (mul_c (at ys (bit_of from * br + b)) by)
 
 -- ---- projection and reset keep a bit
@@ -45,6 +45,11 @@ projected_kept bl br o site =
 pub reset_kept : (bl br : ℕ) (o : Bool) (site : List Float) → kept_site bl br o false (rescale (weight bl br site o)) site ≡ reset_site bl br o site
 unfolding kept_site reset_site
 reset_kept bl br o site = refl
+
+-- either of the two: reset where zero
+pub collapsed : (zero : Bool) (bl br : ℕ) (o : Bool) (site : List Float) → kept_site bl br o (not zero && o) (rescale (weight bl br site o)) site ≡ cond zero (reset_site bl br o site) (projected_site bl br o site)
+collapsed true = reset_kept
+collapsed false = projected_kept
 
 -- ---- places in a pair of rows
 
@@ -81,6 +86,7 @@ step_other ys t u j z h l = at_store_other (store ys u zero_c) t j z h ∙ at_st
 
 module _ (br : ℕ) (from to : Bool) (by : Complex) (xs : List Float) where
   reads_first : each br (keep_step br from to by) xs ≡ each br (first_step br from to by xs) xs
+  unfolding keep_step
   reads_first =
       each_same br (keep_step br from to by) (first_step br from to by xs) xs
       (λ k l. ap (λ (z : Complex). store (store (each k (first_step br from to by xs) xs) (bit_of (not to) * br + k) zero_c) (bit_of to * br + k) (mul_c z by))
@@ -121,9 +127,10 @@ row_second : (br : ℕ) (from to : Bool) (by : Complex) (xs : List Float) → le
 row_second br from true by xs len b h = at_to br from true by xs len b h ∙ sym (at_kept br from true by xs len b h 1 (omega arith))
 row_second br from false by xs len b h = at_other br from false by xs len b h ∙ sym (at_kept br from false by xs len b h 1 (omega arith))
 
-pub kept_pair_lem : (br : ℕ) (from to : Bool) (by : Complex) (xs : List Float) → length xs ≡ 4 * br → each br (keep_step br from to by) xs ≡ kept_pair br from to by xs
-kept_pair_lem br from to by xs len =
-    reads_first br from to by xs
+pub kept_pair_lem : (n br : ℕ) (from to : Bool) (by : Complex) (xs : List Float) → n ≡ br → length xs ≡ 4 * br → each n (keep_step br from to by) xs ≡ kept_pair br from to by xs
+kept_pair_lem n br from to by xs done len =
+    ap (λ (m : ℕ). each m (keep_step br from to by) xs) done
+    ∙ reads_first br from to by xs
     ∙ ext_at (2 * br) _ (kept_pair br from to by xs) (omega (arith, each_length br (first_step br from to by xs) xs (λ i ys l. length_step ys _ _ _))) (length_kept br from to by xs)
     (λ k h. ⊎_elim (λ (l : k < br). in_first k l) (λ (l : br ≤ k). in_second k l (omega arith)) (below_or_past k br))
   where
@@ -151,9 +158,9 @@ module _ (br : ℕ) (from to : Bool) (by : Complex) (o : List Float) where
       rows_same 2 _ _ (λ i _. numbers_same br _ _ (λ b h. ap (λ (z : Complex). cond (eqb i (bit_of to)) (mul_c z by) zero_c)
       (at_part (a * (4 * br)) (a * (4 * br) + 4 * br) (a * (2 * br)) (bit_of from * br + b) o (omega arith) (omega (arith, below_both br from b h)) ∙ ap (at o) (sym (add_assoc (a * (2 * br)) (bit_of from * br) b)))))
 
-  pub kept_none : o ≡ kept_site 0 br from to by o ++ drop (0 * (4 * br)) o
+  pub kept_none : kept_site 0 br from to by o ++ drop (0 * (4 * br)) o ≡ o
   unfolding kept_site
-  kept_none = let e : 0 * (4 * br) ≡ 0 = omega arith in rw e (block_none _ o)
+  kept_none = let e : 0 * (4 * br) ≡ 0 = omega arith in rw e (sym (block_none _ o))
 
   pub kept_more : (a : ℕ) → a * (4 * br) + 4 * br ≤ length o
       → put (a * (4 * br)) (a * (4 * br) + 4 * br) (kept_site a br from to by o ++ drop (a * (4 * br)) o) (kept_pair br from to by (part (a * (4 * br)) (a * (4 * br) + 4 * br) (kept_site a br from to by o ++ drop (a * (4 * br)) o)))
@@ -170,8 +177,8 @@ module _ (br : ℕ) (from to : Bool) (by : Complex) (o : List Float) where
 
   -- ---- the rest of the slot cleared
 
-  pub kept_filled : (bl : ℕ) → bl * (4 * br) ≤ length o
+  pub kept_filled : (bl : ℕ)
       → take (bl * (4 * br)) (kept_site bl br from to by o ++ drop (bl * (4 * br)) o) ++ replicate (length o - bl * (4 * br)) zero_f
       ≡ filled (length o) (kept_site bl br from to by o)
   unfolding kept_site
-  kept_filled bl h = rows_cleared bl (4 * br) (pair_at br from to by o) length_pair o
+  kept_filled bl = rows_cleared bl (4 * br) (pair_at br from to by o) length_pair o

@@ -1,9 +1,9 @@
 // The Born weights of a site, the outcome that a draw picks, and the site projected on an outcome or
 // reset from it. A site's amplitudes stand at the front of its slot, by left index, bit and right
 // index; the rest of a rewritten slot is +0.
-#![tactic(auto)]
+#![tactic(auto, using(complex::specs::Loops::each_none, complex::specs::Loops::each_more, crate::specs::Kept::kept_pair_lem, crate::specs::Kept::kept_none, crate::specs::Kept::kept_more, crate::specs::Kept::kept_filled, crate::specs::Kept::collapsed), unfolding(model::specs::Born::weight, crate::specs::Kept::keep_step))]
 
-ghost use Rattle.std.specs.Prelude.{◌≡◌, ◌++◌, ◌+◌, ◌*◌, ◌≤◌, ◌<◌, length, drop};
+ghost use Rattle.std.specs.Prelude.{◌≡◌, ◌++◌, ◌+◌, ◌*◌, ◌≤◌, ◌<◌, cond, length, drop};
 ghost use Rattle.std.specs.Float.Ieee as ieee;
 ghost use Rattle.std.specs.Float.{binary64};
 ghost use Rattle.complex.specs.Complex.{mul_c, zero_c};
@@ -95,23 +95,14 @@ fn keep(slot: &mut [f64], bl: usize, br: usize, from: bool, to: bool, w: f64)
     clear_from(slot, bl * (4 * br));
 }
 
-// A site projected on outcome o, whose weight is w. The bonds stay parameters here and below: a struct with them and the
-// slot would be made for one call each time, and no fact about them is kept between calls.
-pub fn project(slot: &mut [f64], bl: usize, br: usize, o: bool, w: f64)
+// A site projected on outcome o, whose weight is w. TO_ZERO: the site reset from that outcome, so that
+// its amplitudes go to bit 0. The bonds stay parameters: a struct with them and the slot would be made
+// for one call, and no fact about them is kept between calls.
+pub fn collapse<const TO_ZERO: bool>(slot: &mut [f64], bl: usize, br: usize, o: bool, w: f64)
     requires br_bound { bl * (2 * br) ≤ count slot.old }
     requires bl_bound { (bl ≤ 128) × (br ≤ 128) }
     requires w_value { w ≡ weight_of bl br slot.old o }
-    ensures { slot.new ≡ filled (length slot.old) (projected_site bl br o slot.old) }
+    ensures { slot.new ≡ filled (length slot.old) (cond TO_ZERO (reset_site bl br o slot.old) (projected_site bl br o slot.old)) }
 {
-    keep(slot, bl, br, o, o, w);
-}
-
-// A site reset from outcome o, whose weight is w.
-pub fn reset(slot: &mut [f64], bl: usize, br: usize, o: bool, w: f64)
-    requires br_bound { bl * (2 * br) ≤ count slot.old }
-    requires bl_bound { (bl ≤ 128) × (br ≤ 128) }
-    requires w_value { w ≡ weight_of bl br slot.old o }
-    ensures { slot.new ≡ filled (length slot.old) (reset_site bl br o slot.old) }
-{
-    keep(slot, bl, br, o, false, w);
+    keep(slot, bl, br, o, !TO_ZERO & o, w);
 }

@@ -1,3 +1,2 @@
--- What an outcome needs of the chain once the centre is at its site, and what it leaves in the site's slot.
-pub mod Placed
+-- What projection and reset of a site leave of the chain and its store.
 pub mod Slot

@@ -1,44 +1,64 @@
--- A site's slot projected or reset, unless the outcome's weight is at most the clamp; and the same of the chain.
-use Rattle.std.specs.Prelude.{◌≡◌, refl, Bool, true, false, cond, List, ℕ, Float}
-use Rattle.std.proofs.Common.{◌∙◌}
-use Rattle.std.specs.Float.{binary64}
-use Rattle.std.specs.Float.Ieee.{add, mul, div, lt, le}
-use Rattle.born.specs.Draw.{drawn_weights}
-use Rattle.model.specs.declared.Chain.{Chain}
-use Rattle.model.specs.declared.Projected.TheVariants.{Nothing, Kept}
-use Rattle.model.specs.Chain.{bond_left, bond_right}
-use Rattle.model.specs.Slots.{State, held, slot_of, with_site}
-use Rattle.model.specs.Born.{projected_site, reset_site, weight_at, drawn_at, projected_at, reset_at}
-use Rattle.model.specs.Calls.{project_answer}
+-- What the state becomes where site k is projected on an outcome, or reset from it: itself where the weight is at most the clamp, else another site in its slot.
+use Rattle.std.specs.Prelude.{◌≡◌, Bool, true, false, cond, ℕ, ◌+◌, ◌*◌, ◌<◌, length, Float}
+use Rattle.std.proofs.Common.{sym, ap, ◌∙◌, arith, mul-le-mul_right}
+use Rattle.std.specs.Float.Ieee.{le}
+use Rattle.complex.specs.Parts.{put, length_part}
+use Rattle.model.specs.Slots.{State, held, slot_room, filled, lefts, rights, site_at, with_site}
+use Rattle.model.specs.Born.{projected_site, reset_site, weight_at, projected_at, reset_at}
+use Rattle.model.proofs.Laws.RunLaws.{projected_at_apart, reset_at_apart}
+use Rattle.moves.specs.declared.Mps.{Mps}
+use Rattle.moves.specs.Mps.{state, Becomes, itself}
 
--- the store, with another site at k unless the weight w is at most the clamp
-abbrev pub rewritten : ℕ → ℕ → Float → Float → List Float → List Float → List Float
-rewritten d k w clamp site store = cond (le w clamp) store (with_site d k site store)
+-- reset where zero, else projected
 
-held_cond : (c : Chain) (t : Bool) (x y : List Float) → held c (cond t x y) ≡ cond t (held c x) (held c y)
-held_cond c true x y = refl
-held_cond c false x y = refl
+clamped_state : (zero : Bool) (k : ℕ) (o : Bool) (s : State) → le (weight_at k o s) s.chain.norm_clamp_min ≡ true → cond zero (reset_at k o s) (projected_at k o s) ≡ s
+unfolding projected_at reset_at
+clamped_state true k o s h = rw h
+clamped_state false k o s h = rw h
 
-module _ (c : Chain) (k : ℕ) (o : Bool) (w : Float) (store out : List Float) (e : w ≡ weight_at k o (held c store)) where
-  pub projected_held : out ≡ rewritten c.max_bond_dim k w c.norm_clamp_min (projected_site (bond_left c k) (bond_right c k) o (slot_of c.max_bond_dim k store)) store
-      → held c out ≡ projected_at k o (held c store)
-  unfolding projected_at
-  projected_held p = rw (p, e) (held_cond c (le (weight_at k o (held c store)) c.norm_clamp_min) _ _)
+collapsed_state : (zero : Bool) (k : ℕ) (o : Bool) (s : State) → le (weight_at k o s) s.chain.norm_clamp_min ≡ false
+    → cond zero (reset_at k o s) (projected_at k o s)
+    ≡ held s.chain (with_site s.chain.max_bond_dim k (cond zero (reset_site (lefts s k) (rights s k) o (site_at s k)) (projected_site (lefts s k) (rights s k) o (site_at s k))) s.store)
+unfolding projected_at reset_at
+collapsed_state true k o s h = rw h
+collapsed_state false k o s h = rw h
 
-  pub reset_held : out ≡ rewritten c.max_bond_dim k w c.norm_clamp_min (reset_site (bond_left c k) (bond_right c k) o (slot_of c.max_bond_dim k store)) store
-      → held c out ≡ reset_at k o (held c store)
-  unfolding reset_at
-  reset_held p = rw (p, e) (held_cond c (le (weight_at k o (held c store)) c.norm_clamp_min) _ _)
+-- it is written into the slot alone
+collapsed_long : (zero : Bool) (k : ℕ) (o : Bool) (m : Mps) → k < m.chain.now.num_qubits → length (cond zero (reset_at k o (state m)) (projected_at k o (state m))).store ≡ length m.store.now
+collapsed_long true k o m l = (reset_at_apart (state m) m.ready.sound m.ready.store_room_lem k l o).long
+collapsed_long false k o m l = (projected_at_apart (state m) m.ready.sound m.ready.store_room_lem k l o).long
 
--- the weight that is picked is the outcome's
-pub picked : (k : ℕ) (s : State) (o : Bool) (w zero one : Float) → zero ≡ weight_at k false s → one ≡ weight_at k true s → w ≡ cond o one zero → w ≡ weight_at k o s
-picked k s true w zero one p q e = e ∙ q
-picked k s false w zero one p q e = e ∙ p
+module _ (zero : Bool) (k : ℕ) (o : Bool) (w : Float) (m : Mps) (e : w ≡ weight_at k o (state m)) where
+  abbrev s : State
+  s = state m
 
-pub drawn_at_lem : (k : ℕ) (s : State) (draw zero one : Float) → zero ≡ weight_at k false s → one ≡ weight_at k true s → lt (mul binary64 draw (add binary64 zero one)) one ≡ drawn_at k draw s
-drawn_at_lem k s draw zero one p q = rw (p, q) (drawn_weights draw _ _ _)
+  abbrev d : ℕ
+  d = s.chain.max_bond_dim
 
--- the answer of a projection, from the weights
-pub share_answer : (k : ℕ) (s : State) (o : Bool) (w zero one : Float) → zero ≡ weight_at k false s → one ≡ weight_at k true s → w ≡ weight_at k o s
-    → cond (le w s.chain.norm_clamp_min) Nothing (Kept (div binary64 w (add binary64 zero one))) ≡ project_answer k o s
-share_answer k s o w zero one p q e = rw (p, q, e)
+  pub clamped : le w s.chain.norm_clamp_min ≡ true → Becomes (cond zero (reset_at k o s) (projected_at k o s)) m m
+  clamped h = record { value = sym (clamped_state zero k o s (rw e at h)); place = itself m }
+
+  slot_length : k < s.chain.num_qubits → length (site_at s k) ≡ slot_room d
+  slot_length l = length_part (k * slot_room d) (k * slot_room d + slot_room d) s.store (omega arith) (omega (arith, m.ready.store_room_lem, mul-le-mul_right (slot_room d) l)) ∙ omega arith
+
+  pub collapsed : (new : Mps) → k < s.chain.num_qubits → le w s.chain.norm_clamp_min ≡ false
+      → new.chain ≡ m.chain → new.work ≡ m.work → new.store.ghost_name ≡ m.store.ghost_name
+      → new.store.now ≡ put (k * slot_room d) (k * slot_room d + slot_room d) s.store (filled (length (site_at s k)) (cond zero (reset_site (lefts s k) (rights s k) o (site_at s k)) (projected_site (lefts s k) (rights s k) o (site_at s k))))
+      → Becomes (cond zero (reset_at k o s) (projected_at k o s)) m new
+  collapsed new l h ec ew eg es =
+      let v : state new ≡ cond zero (reset_at k o s) (projected_at k o s) = rw (ec, es, slot_length l) (sym (collapsed_state zero k o s (rw e at h))) in
+      record {
+        value = v;
+        place = record {
+          stays = record {
+            sound = rw ec m.ready.sound;
+            qubits = rw ec;
+            cap = rw ec;
+            store_length = ap (λ (t : State). length t.store) v ∙ collapsed_long zero k o m l;
+            work_length = rw ew;
+          };
+          chain_lent = rw ec;
+          store_lent = eg;
+          work_lent = rw ew;
+        };
+      }

@@ -1,20 +1,18 @@
 // Projection, measurement and reset of the qubit at a site. The centre is brought to the site first, so
 // that the site's own amplitudes give the weights.
-#![tactic(auto)]
+#![tactic(auto, using(born::specs::Draw::drawn_weights))]
 
 ghost use Rattle.std.specs.Prelude.{◌≡◌, true, false, cond, ◌<◌};
 ghost use Rattle.std.specs.Float.Ieee as ieee;
 ghost use Rattle.std.specs.Float.{binary64};
 ghost use Rattle.model.specs.declared.Projected.TheVariants as projected;
-ghost use Rattle.model.specs.Slots.{held};
 ghost use Rattle.model.specs.Born.{weight_at, drawn_at, projected_at, reset_at, readied};
 ghost use Rattle.model.specs.Calls.{project_answer, flagged};
-ghost use Rattle.moves.specs.Ready.{Ready};
-ghost use Rattle.outcomes.specs.Placed.{Placed};
+ghost use Rattle.moves.specs.Mps.{state, Becomes};
 
-use born::{drawn, project, reset, weight};
-use model::{Chain, Projected};
-use moves::center_on;
+use born::{collapse, drawn, weight};
+use model::Projected;
+use moves::Mps;
 
 // The weights of both outcomes at a site, not divided by their total.
 #[derive(Clone, Copy)]
@@ -43,14 +41,14 @@ impl Weights {
     }
 }
 
-// ---- a chain whose centre is at site k
-
-// The weights of both outcomes.
-fn born_weights(chain: &Chain, store: &[f64], k: usize) -> Weights
-    requires { Placed k (held chain.now store.now) }
-    ensures zero_value { result.zero ≡ weight_at k false (held chain.now store.now) }
-    ensures one_value { result.one ≡ weight_at k true (held chain.now store.now) }
+// The weights of both outcomes at site k, the centre being there.
+fn born_weights(mps: &Mps, k: usize) -> Weights
+    requires { k < mps.now.chain.now.num_qubits }
+    ensures zero_value { result.zero ≡ weight_at k false (state mps.now) }
+    ensures one_value { result.one ≡ weight_at k true (state mps.now) }
 {
+    let chain = &*mps.chain;
+    let store = &*mps.store;
     let bl = usize::from(chain.bond_left[k]);
     let br = usize::from(chain.bond_right[k]);
     let slot = 4 * chain.max_bond_dim * chain.max_bond_dim;
@@ -61,92 +59,70 @@ fn born_weights(chain: &Chain, store: &[f64], k: usize) -> Weights
     Weights { zero, one }
 }
 
-// Projected on outcome o of weight w, unless that is at most the clamp.
-fn project_site_outcome(chain: &Chain, store: &mut [f64], k: usize, o: bool, w: f64)
-    requires placed { Placed k (held chain.now store.old) }
-    requires w_value { w ≡ weight_at k o (held chain.now store.old) }
-    ensures { held chain.now store.new ≡ projected_at k o (held chain.now store.old) }
+// The centre brought to site k, and the weights of both outcomes there.
+fn centered_weights(mps: &mut Mps, k: usize) -> Weights
+    requires { k < mps.old.chain.now.num_qubits }
+    ensures state_after { Becomes (readied k (state mps.old)) mps.old mps.new }
+    ensures zero_value { result.zero ≡ weight_at k false (readied k (state mps.old)) }
+    ensures one_value { result.one ≡ weight_at k true (readied k (state mps.old)) }
 {
-    if w <= chain.norm_clamp_min {
-        return;
-    }
-    let bl = usize::from(chain.bond_left[k]);
-    let br = usize::from(chain.bond_right[k]);
-    let slot = 4 * chain.max_bond_dim * chain.max_bond_dim;
-    let a = k * slot;
-    let e = a + slot;
-    project(&mut store[a..e], bl, br, o, w);
+    mps.center_on(k);
+    born_weights(mps, k)
 }
 
-// Reset from outcome o of weight w, unless that is at most the clamp.
-fn collapse_site_to_zero(chain: &Chain, store: &mut [f64], k: usize, o: bool, w: f64)
-    requires placed { Placed k (held chain.now store.old) }
-    requires w_value { w ≡ weight_at k o (held chain.now store.old) }
-    ensures { held chain.now store.new ≡ reset_at k o (held chain.now store.old) }
+// Projected on outcome o of weight w, unless that is at most the clamp. TO_ZERO: reset from it.
+#[tactic(auto, using(crate::specs::Slot::clamped))]
+fn collapse_site<const TO_ZERO: bool>(mps: &mut Mps, k: usize, o: bool, w: f64)
+    requires k_bound { k < mps.old.chain.now.num_qubits }
+    requires w_value { w ≡ weight_at k o (state mps.old) }
+    ensures { Becomes (cond TO_ZERO (reset_at k o (state mps.old)) (projected_at k o (state mps.old))) mps.old mps.new }
 {
-    if w <= chain.norm_clamp_min {
+    if w <= mps.chain.norm_clamp_min {
         return;
     }
-    let bl = usize::from(chain.bond_left[k]);
-    let br = usize::from(chain.bond_right[k]);
-    let slot = 4 * chain.max_bond_dim * chain.max_bond_dim;
+    let bl = usize::from(mps.chain.bond_left[k]);
+    let br = usize::from(mps.chain.bond_right[k]);
+    let slot = 4 * mps.chain.max_bond_dim * mps.chain.max_bond_dim;
     let a = k * slot;
     let e = a + slot;
-    reset(&mut store[a..e], bl, br, o, w);
+    let store = &mut *mps.store;
+    collapse::<TO_ZERO>(&mut store[a..e], bl, br, o, w);
 }
 
 // ---- the qubit at site k, the centre brought there first
 
 // Projected on outcome o.
-pub fn project_z_outcome(
-    chain: &mut Chain,
-    store: &mut [f64],
-    work: &mut [f64],
-    k: usize,
-    o: bool,
-) -> Projected
-    requires ready { Ready chain.old store.old work.old }
-    requires k_bound { k < chain.old.num_qubits }
-    ensures answer_value { result ≡ project_answer k o (readied k (held chain.old store.old)) }
-    ensures store_after { held chain.new store.new ≡ projected_at k o (readied k (held chain.old store.old)) }
+pub fn project_z_outcome(mps: &mut Mps, k: usize, o: bool) -> Projected
+    requires { k < mps.old.chain.now.num_qubits }
+    ensures answer_value { result ≡ project_answer k o (readied k (state mps.old)) }
+    ensures state_after { Becomes (projected_at k o (readied k (state mps.old))) mps.old mps.new }
 {
-    center_on(chain, store, work, k);
-    let both = born_weights(chain, store, k);
+    let both = centered_weights(mps, k);
     let w = both.of(o);
-    project_site_outcome(chain, store, k, o, w);
-    both.share(w, chain.norm_clamp_min)
+    let answer = both.share(w, mps.chain.norm_clamp_min);
+    collapse_site::<false>(mps, k, o, w);
+    answer
 }
 
 // Measured by a draw, into a flag.
-pub fn apply_measure(
-    chain: &mut Chain,
-    store: &mut [f64],
-    work: &mut [f64],
-    k: usize,
-    flag: usize,
-    draw: f64,
-) -> bool
-    requires ready { Ready chain.old store.old work.old }
-    requires k_bound { (k < chain.old.num_qubits) × (flag < 64) }
-    ensures bit { result ≡ drawn_at k draw (readied k (held chain.old store.old)) }
-    ensures store_after { held chain.new store.new ≡ flagged flag (drawn_at k draw (readied k (held chain.old store.old))) (projected_at k (drawn_at k draw (readied k (held chain.old store.old))) (readied k (held chain.old store.old))) }
+pub fn apply_measure(mps: &mut Mps, k: usize, flag: usize, draw: f64) -> bool
+    requires { (k < mps.old.chain.now.num_qubits) × (flag < 64) }
+    ensures bit { result ≡ drawn_at k draw (readied k (state mps.old)) }
+    ensures state_after { let s = readied k (state mps.old) in Becomes (flagged flag (drawn_at k draw s) (projected_at k (drawn_at k draw s) s)) mps.old mps.new }
 {
-    center_on(chain, store, work, k);
-    let both = born_weights(chain, store, k);
+    let both = centered_weights(mps, k);
     let b = drawn(draw, both.zero, both.one);
-    project_site_outcome(chain, store, k, b, both.of(b));
-    chain.classical_bits[flag] = b;
+    collapse_site::<false>(mps, k, b, both.of(b));
+    mps.chain.classical_bits[flag] = b;
     b
 }
 
 // Reset, by a draw.
-pub fn apply_reset(chain: &mut Chain, store: &mut [f64], work: &mut [f64], k: usize, draw: f64)
-    requires ready { Ready chain.old store.old work.old }
-    requires k_bound { k < chain.old.num_qubits }
-    ensures { held chain.new store.new ≡ reset_at k (drawn_at k draw (readied k (held chain.old store.old))) (readied k (held chain.old store.old)) }
+pub fn apply_reset(mps: &mut Mps, k: usize, draw: f64)
+    requires { k < mps.old.chain.now.num_qubits }
+    ensures { let s = readied k (state mps.old) in Becomes (reset_at k (drawn_at k draw s) s) mps.old mps.new }
 {
-    center_on(chain, store, work, k);
-    let both = born_weights(chain, store, k);
+    let both = centered_weights(mps, k);
     let b = drawn(draw, both.zero, both.one);
-    collapse_site_to_zero(chain, store, k, b, both.of(b));
+    collapse_site::<true>(mps, k, b, both.of(b));
 }
