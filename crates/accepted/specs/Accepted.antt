@@ -1,15 +1,19 @@
 -- What a call that is not refused has: a sound record, slices that are long enough, indices in range; and its work slice, lent as far as it is needed and +0 there afterwards.
-use Rattle.std.specs.Prelude.{ℕ, ◌*◌, ◌≤◌, ◌<◌, ◌≡◌, List, ◌++◌, false, not, ◌||◌, leb, ltb, length, take, drop, replicate, Float}
+use Rattle.std.specs.Prelude.{ℕ, ◌*◌, ◌≤◌, ◌<◌, ◌≡◌, ◌≢◌, List, ◌++◌, false, not, ◌||◌, leb, ltb, length, take, drop, replicate, Float}
 use Rattle.std.proofs.Common.{◌∙◌, mul-le-mul, arith, leb-false, ltb-false, eq-eqb, length-append, length-drop, length-take-le, take_at, drop_at}
 use Rattle.std.proofs.lemmas.List.{take-append-le}
 use Rattle.complex.specs.Complex.{zero_f}
-use Rattle.model.specs.Slots.{State, work_room}
+use Rattle.complex.specs.declared.Complex.{Complex}
+use Rattle.model.specs.declared.Chain.{Chain}
+use Rattle.model.specs.Chain.{site_of}
+use Rattle.model.specs.Slots.{State, held, work_room}
 use Rattle.model.specs.Sound.{share01, sound}
-use Rattle.model.specs.Calls.{short, outside, measure_refusal, env_room, env_refusal, cleared}
+use Rattle.model.specs.Calls.{short, outside, gate_refusal, project_refusal, measure_refusal, reset_refusal, env_room, env_refusal, cleared}
 use Rattle.model.specs.Statements.Soundness.{Sound}
 use Rattle.model.proofs.Laws.SoundFacts.{facts_sound}
 use Rattle.model.proofs.Laws.AfterStates.{not_short}
-use Rattle.model.proofs.Laws.Refusals.{first_of_none, passes_sound, not_outside}
+use Rattle.model.proofs.Laws.SoundKept.{AcceptedGate, gate_accepted}
+use Rattle.model.proofs.Laws.Refusals.{first_of_none, passes_sound, not_outside, AcceptedReading, project_passes, measure_passes, reset_passes}
 use Rattle.model.proofs.Laws.Tests.{neither}
 use Rattle.moves.specs.Ready.{Ready}
 use Rattle.environments.specs.Walk.{Walkable}
@@ -74,6 +78,55 @@ lent s work h long room e =
           let n : length used ≡ room = l ∙ whole in
           rw (z, take_at used (drop room work) room n, drop_at used (drop room work) room n, n, e);
     }
+
+-- ---- what the front is lent of, and to whom
+
+pub record Lendable (c : Chain) (store work : List Float) : Type 0 where
+  pub sound : Sound c
+  pub long : short c store work ≡ false
+
+module _ (c : Chain) (store work : List Float) where
+  module _ (h : Lendable c store work) where
+    pub lendable_cap : c.max_bond_dim ≤ 128
+    lendable_cap = h.sound.settings.cap.1
+
+    pub lendable_fits : (room : ℕ) → room ≡ work_room c.max_bond_dim → room ≤ length work
+    lendable_fits room l = (lent (held c store) work h.sound h.long room l).fits
+
+    pub lendable_ready : (room : ℕ) → room ≡ work_room c.max_bond_dim → Ready c store (take room work)
+    lendable_ready room l = (lent (held c store) work h.sound h.long room l).ready
+
+  module _ (q0 q1 : ℕ) (gate : List (List Complex)) (e : gate_refusal (held c store) work q0 q1 gate ≡ 0) where
+    g : AcceptedGate (held c store) work q0 q1 gate
+    g = gate_accepted (held c store) work q0 q1 gate (eq-eqb _ 0 e)
+
+    pub gate_lendable : Lendable c store work
+    gate_lendable = record { sound = g.sound; long = g.long }
+
+    pub gate_qubits : (q0 < c.num_qubits) × (q1 < c.num_qubits) × (q0 ≢ q1)
+    gate_qubits = (g.first, g.second, g.two)
+
+  pub walk_lendable : (out : List Float) (end site : ℕ) → env_refusal (held c store) work out end site ≡ 0 → Lendable c store work
+  walk_lendable out end site e = let w = walk_accepted (held c store) work out end site e in record { sound = w.sound; long = w.long }
+
+  -- of a call at a qubit's site
+  module _ (q : ℕ) where
+    pub record Reads : Type 0 where
+      pub lendable : Lendable c store work
+      pub below : q < 64
+      pub site_below : site_of c q < c.num_qubits
+
+    reads : AcceptedReading (held c store) work q → Reads
+    reads r = record { lendable = record { sound = r.sound; long = r.long }; below = omega (arith, r.below, r.sound.settings.qubits.1); site_below = r.site_below }
+
+    pub project_reads : project_refusal (held c store) work q ≡ 0 → Reads
+    project_reads e = reads (project_passes (held c store) work q (eq-eqb _ 0 e))
+
+    pub measure_reads : (flag : ℕ) (draw : Float) → measure_refusal (held c store) work q flag draw ≡ 0 → Reads
+    measure_reads flag draw e = reads (measure_passes (held c store) work q flag draw (eq-eqb _ 0 e))
+
+    pub reset_reads : (draw : Float) → reset_refusal (held c store) work q draw ≡ 0 → Reads
+    reset_reads draw e = reads (reset_passes (held c store) work q draw (eq-eqb _ 0 e))
 
 -- ---- an environment of dimension dim, that a walk left at the front of the part
 

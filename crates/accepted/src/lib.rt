@@ -10,6 +10,7 @@ ghost use Rattle.model.specs.Calls.{after, walked, gate_refusal, gate_call, proj
 use complex::Complex;
 use environments::{compute_left_env, compute_right_env, write_environment};
 use model::{Applied, Chain, Projected};
+use moves::Mps;
 use outcomes::{apply_measure, apply_reset, project_z_outcome};
 use refusals::work_room;
 use routing::apply_two_qubit_gate;
@@ -17,6 +18,7 @@ use routing::apply_two_qubit_gate;
 // ---- gates
 
 // A gate on the qubits q0 and q1, routed to them by swaps.
+#[tactic(auto, using(crate::specs::Accepted::gate_lendable, crate::specs::Accepted::gate_qubits, crate::specs::Accepted::lendable_cap, crate::specs::Accepted::lendable_fits, crate::specs::Accepted::lendable_ready))]
 pub fn run_gate(
     chain: &mut Chain,
     store: &mut [f64],
@@ -29,7 +31,13 @@ pub fn run_gate(
     ensures { after result (held chain.new store.new) work.new ≡ gate_call (held chain.old store.old) work.old q0 q1 gate }
 {
     let room = work_room(chain.max_bond_dim);
-    let out = apply_two_qubit_gate(chain, store, &mut work[..room], gate, q0, q1);
+    let front = &mut work[..room];
+    let mut mps = Mps {
+        chain,
+        store,
+        work: front,
+    };
+    let out = apply_two_qubit_gate(&mut mps, gate, q0, q1);
     work[..room].fill(0.0);
     out
 }
@@ -37,6 +45,7 @@ pub fn run_gate(
 // ---- outcomes
 
 // Qubit q projected on the outcome `bit`.
+#[tactic(auto, using(crate::specs::Accepted::project_reads, crate::specs::Accepted::lendable_cap, crate::specs::Accepted::lendable_fits, crate::specs::Accepted::lendable_ready))]
 pub fn run_project(
     chain: &mut Chain,
     store: &mut [f64],
@@ -49,12 +58,19 @@ pub fn run_project(
 {
     let room = work_room(chain.max_bond_dim);
     let site = usize::from(chain.logical_to_site[q]);
-    let out = project_z_outcome(chain, store, &mut work[..room], site, bit);
+    let front = &mut work[..room];
+    let mut mps = Mps {
+        chain,
+        store,
+        work: front,
+    };
+    let out = project_z_outcome(&mut mps, site, bit);
     work[..room].fill(0.0);
     out
 }
 
 // Qubit q measured by a draw, into a flag.
+#[tactic(auto, using(crate::specs::Accepted::measure_reads, crate::specs::Accepted::lendable_cap, crate::specs::Accepted::lendable_fits, crate::specs::Accepted::lendable_ready, crate::specs::Accepted::flag_below))]
 pub fn run_measure(
     chain: &mut Chain,
     store: &mut [f64],
@@ -68,25 +84,39 @@ pub fn run_measure(
 {
     let room = work_room(chain.max_bond_dim);
     let site = usize::from(chain.logical_to_site[q]);
-    let seen = apply_measure(chain, store, &mut work[..room], site, flag, draw);
+    let front = &mut work[..room];
+    let mut mps = Mps {
+        chain,
+        store,
+        work: front,
+    };
+    let seen = apply_measure(&mut mps, site, flag, draw);
     work[..room].fill(0.0);
     seen
 }
 
 // Qubit q reset to 0, by a draw.
+#[tactic(auto, using(crate::specs::Accepted::reset_reads, crate::specs::Accepted::lendable_cap, crate::specs::Accepted::lendable_fits, crate::specs::Accepted::lendable_ready))]
 pub fn run_reset(chain: &mut Chain, store: &mut [f64], work: &mut [f64], q: usize, draw: f64)
     requires { reset_refusal (held chain.old store.old) work.old q draw ≡ 0 }
     ensures { after (Ok tt) (held chain.new store.new) work.new ≡ reset_call (held chain.old store.old) work.old q draw }
 {
     let room = work_room(chain.max_bond_dim);
     let site = usize::from(chain.logical_to_site[q]);
-    apply_reset(chain, store, &mut work[..room], site, draw);
+    let front = &mut work[..room];
+    let mut mps = Mps {
+        chain,
+        store,
+        work: front,
+    };
+    apply_reset(&mut mps, site, draw);
     work[..room].fill(0.0);
 }
 
-// ---- environments: the record and the store are only read
+// ---- environments: the record and the store are only read. Two functions, as each walks the other way, by another call
 
 // The left environment of a site, the sites from `from` on contracted, into the result slice.
+#[tactic(auto, using(crate::specs::Accepted::walk_lendable, crate::specs::Accepted::lendable_cap, crate::specs::Accepted::lendable_fits))]
 pub fn run_left_environment(
     chain: &Chain,
     store: &[f64],
@@ -106,6 +136,7 @@ pub fn run_left_environment(
 }
 
 // The right environment of a site, the sites from `to` back to the next one contracted, into the result slice.
+#[tactic(auto, using(crate::specs::Accepted::walk_lendable, crate::specs::Accepted::lendable_cap, crate::specs::Accepted::lendable_fits))]
 pub fn run_right_environment(
     chain: &Chain,
     store: &[f64],

@@ -9,13 +9,6 @@ use Rattle.accepted.specs.Accepted.{walk_accepted, lent, entries_fit, written_en
 use Rattle.accepted.specs.Ends.{walk_ends}
 use Rattle.accepted.proofs.run_left_environment.Goals as goal
 
-pub work_room-room-requires : goal.work_room-room-requires
-work_room-room-requires c =
-    let a = c.args in
-    let s = held a.chain.now a.store.now in
-    let g = walk_accepted s a.work.now a.out.now a.from a.site c.requires in
-    g.sound.settings.cap.1
-
 pub write_environment-requires : goal.write_environment-requires
 write_environment-requires c =
     let a = c.args in
