@@ -38,6 +38,7 @@ fn pair_bonds(chain: &Chain, k: usize) -> Bonds
 
 // Whether a cut of these bonds needs more numbers than the setting allows. Bonds that are bytes need
 // fewer than 2^63, so that from 63 on every exponent allows the same.
+#[tactic(auto, using(crate::specs::Pair::shifted))]
 fn workspace_exceeded(workspace_exponent: u8, bonds: Bonds) -> bool
     requires { Bytes bonds }
     ensures { result ≡ ltb (2 ^ workspace_exponent) (workspace bonds.left bonds.mid bonds.right) }
@@ -90,6 +91,7 @@ fn pair_slots(d: usize, k: usize) -> Slots
 }
 
 // The pair k, k + 1 with the gate on it, decomposed at the front of the work slice; nothing where one of its values is a NaN.
+#[tactic(auto, using(crate::specs::Pair::pair_of, crate::specs::Pair::work_enough, crate::specs::Pair::left_numbers, crate::specs::Pair::right_numbers))]
 fn decompose_pair(mps: &mut Mps, gate: [[Complex; 4]; 4], k: usize) -> Option<Decomposed>
     requires { k + 1 < mps.old.chain.now.num_qubits }
     ensures unchanged { state mps.new ≡ state mps.old }
@@ -180,6 +182,7 @@ fn record_cut(chain: &mut Chain, k: usize, kept: Kept)
 }
 
 // The cut stored, its weight on one side; the centre stays where it is recorded.
+#[tactic(auto, using(crate::specs::Pair::pair_of, crate::specs::Pair::pair_with))]
 fn store_cut(mps: &mut Mps, cut: &Cut, k: usize, side: WeightSide)
     requires k_bound { k + 1 < mps.old.chain.now.num_qubits }
     requires cut_value { Storable k mps.old.chain.now mps.old.work.now cut.now }
@@ -209,6 +212,7 @@ fn weight_site(side: WeightSide, k: usize) -> usize
 }
 
 // The cut of a pair that the centre is on, which is left on the given side.
+#[tactic(auto, using(crate::specs::Attempts::prepared_nan, std::proofs::lemmas::Result::err_from_is_err_and))]
 fn cut_prepared(mps: &mut Mps, gate: [[Complex; 4]; 4], k: usize, side: WeightSide) -> Applied
     requires { k + 1 < mps.old.chain.now.num_qubits }
     ensures value { answered result (state mps.new) ≡ prepared_by gate k (prepared side (state mps.old)) }
@@ -233,6 +237,7 @@ fn cut_centered(mps: &mut Mps, gate: [[Complex; 4]; 4], k: usize) -> Applied
 // A gate on the sites k and k + 1: refused by 6 above the workspace; else the cut, with a centre where one is kept. Where
 // weight would be lost without one, a centre is established and the cut made again; no bond is wider then, so 6 is not
 // asked again.
+#[tactic(auto, using(crate::specs::Attempts::adjacent_above, crate::specs::Attempts::centered_once, crate::specs::Attempts::bare_nan, crate::specs::Attempts::twice, std::proofs::lemmas::Result::err_from_is_err_and))]
 pub fn apply_adjacent_two_qubit(mps: &mut Mps, gate: [[Complex; 4]; 4], k: usize) -> Applied
     requires { k + 1 < mps.old.chain.now.num_qubits }
     ensures value { let s = state mps.old in answered result (state mps.new) ≡ answered_by (adjacent_reason gate k s) (adjacent gate k s) }
