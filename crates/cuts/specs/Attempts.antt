@@ -5,6 +5,7 @@ use Rattle.std.proofs.Common.{◌∙◌, true≢false}
 use Rattle.std.proofs.Math.Bool.{true, not}
 use Rattle.complex.specs.declared.Complex.{Complex}
 use Rattle.model.specs.declared.Chain.{Chain}
+use Rattle.model.specs.Chain.{with_center}
 use Rattle.model.specs.declared.WeightSide.{WeightSide}
 use Rattle.model.specs.declared.WeightSide.TheVariants.{Right}
 use Rattle.model.specs.Slots.{State, held, with_site}
@@ -51,7 +52,7 @@ stored_by side k w r at s =
 
 -- s, and the same state after the decomposition
 module _ (gate : List (List Complex)) (k : ℕ) (s u : State) (same : u ≡ s) where
-  pub cut_nan : (maintained : Bool) (side : WeightSide) → nan_in (pair_of gate k u) ≡ true → cut_with gate k maintained (prepared side s) ≡ tried 7 false u
+  cut_nan : (maintained : Bool) (side : WeightSide) → nan_in (pair_of gate k u) ≡ true → cut_with gate k maintained (prepared side s) ≡ tried 7 false u
   unfolding cut_with
   cut_nan maintained side z = rw (← same, z)
 
@@ -65,14 +66,14 @@ module _ (gate : List (List Complex)) (k : ℕ) (s u : State) (same : u ≡ s) w
     kept_lost : r.kept.resolvable ≡ resolvable (values (pair_of gate k u)) chi
     kept_lost = h.kept.resolvable ∙ ap (resolvable (values (pair_of gate k u))) h.kept.rank
 
-    pub kept_reason : r.kept.reason ≡ reason_in gate k s
+    kept_reason : r.kept.reason ≡ reason_in gate k s
     kept_reason = h.kept.reason ∙ ap (reason_in gate k) same
 
-    pub cut_again : r.kept.resolvable ≡ true → cut_with gate k false (prepared Right s) ≡ tried 0 true u
+    cut_again : r.kept.resolvable ≡ true → cut_with gate k false (prepared Right s) ≡ tried 0 true u
     unfolding cut_with
     cut_again t = rw (← same, h.number, sym kept_lost ∙ t)
 
-    pub cut_stored_lem : (maintained : Bool) (side : WeightSide) → not maintained && r.kept.resolvable ≡ false
+    cut_stored_lem : (maintained : Bool) (side : WeightSide) → not maintained && r.kept.resolvable ≡ false
         → cut_with gate k maintained (prepared side s) ≡ tried 0 false (stored_by side k w r (cond maintained (Some (weight_site side k)) u.chain.center) u)
     unfolding cut_with
     cut_stored_lem maintained side t =
@@ -88,8 +89,10 @@ module _ (gate : List (List Complex)) (k : ℕ) (s u : State) (same : u ≡ s) (
   pub prepared_nan : nan_in (pair_of gate k u) ≡ true → answered (Err 7) u ≡ prepared_by gate k (prepared side s)
   prepared_nan z = rw (cut_nan gate k s u same true side z)
 
-  pub prepared_stored : (w : List Float) (r : Cut) → CutOf gate k u w r → answered (Ok r.kept.reason) (stored_by side k w r (Some (weight_site side k)) u) ≡ prepared_by gate k (prepared side s)
-  prepared_stored w r h = rw (cut_stored_lem gate k s u same w r h true side refl, kept_reason gate k s u same w r h)
+  -- v is what the storing leaves, and then the centre is the site `at`
+  pub prepared_stored : (w : List Float) (r : Cut) → CutOf gate k u w r → (v : State) → v ≡ stored_by side k w r u.chain.center u → (at : ℕ) → at ≡ weight_site side k
+      → answered (Ok r.kept.reason) (held (with_center v.chain (Some at)) v.store) ≡ prepared_by gate k (prepared side s)
+  prepared_stored w r h v e at l = rw (e, l, cut_stored_lem gate k s u same w r h true side refl, kept_reason gate k s u same w r h)
 
 -- ---- an attempt by its branches
 
@@ -168,11 +171,18 @@ module _ (gate : List (List Complex)) (k : ℕ) (s : State) (b : Bonds) (eb : b 
       first : attempt gate k s ≡ cut_with gate k false (prepared Right s)
       first = attempt_bare gate k s inside_room (rw eb at e)
 
-      pub bare_once : (t : Tried) → cut_with gate k false (prepared Right s) ≡ t → t.again ≡ false → answered_by (reason_in gate k s) (ran_of t) ≡ adjacent_by gate k s
+      bare_once : (t : Tried) → cut_with gate k false (prepared Right s) ≡ t → t.again ≡ false → answered_by (reason_in gate k s) (ran_of t) ≡ adjacent_by gate k s
       bare_once t l z =
           let n : keeps_centre k s ≡ false = rw eb at e in
           let same : answered_by (reason_in gate k s) (ran_of (cut_with gate k false (prepared Right s))) ≡ answered_by (attempt_reason gate k s) (ran_of (attempt gate k s)) = rw (first, n) in
           ap (λ (x : Tried). answered_by (reason_in gate k s) (ran_of x)) (sym l) ∙ same ∙ once (ap (λ (x : Tried). x.again) (first ∙ l) ∙ z)
+
+      pub bare_nan : (u : State) → u ≡ s → nan_in (pair_of gate k u) ≡ true → answered (Err 7) u ≡ adjacent_by gate k s
+      bare_nan u same z = bare_once (tried 7 false u) (cut_nan gate k s u same false Right z) refl
+
+      pub bare_stored : (u : State) → u ≡ s → (w : List Float) (r : Cut) → CutOf gate k u w r → r.kept.resolvable ≡ false → (v : State) → v ≡ stored_by Right k w r u.chain.center u
+          → answered (Ok r.kept.reason) v ≡ adjacent_by gate k s
+      bare_stored u same w r h z v e = rw (e, kept_reason gate k s u same w r h) (bare_once _ (cut_stored_lem gate k s u same w r h false Right z) refl)
 
       -- and again, after a centre is established
       module _ (h : Sound s.chain) (inside : k + 1 < s.chain.num_qubits) (z : (cut_with gate k false (prepared Right s)).again ≡ true) where
@@ -203,6 +213,8 @@ module _ (gate : List (List Complex)) (k : ℕ) (s : State) (b : Bonds) (eb : b 
         again_answers : prepared_by gate k (prepared Right second) ≡ adjacent_by gate k s
         again_answers = ap (prepared_by gate k) (sym (established_prepared k s)) ∙ kept_answers gate k second room centre ∙ made_again
 
-      pub twice : Sound s.chain → k + 1 < s.chain.num_qubits → (u : State) → u ≡ s → cut_with gate k false (prepared Right s) ≡ tried 0 true u
-          → (x : Answered) (v : State) → v ≡ established k u → x ≡ prepared_by gate k (prepared Right v) → x ≡ adjacent_by gate k s
-      twice h inside u same z x v e f = f ∙ ap (λ (t : State). prepared_by gate k (prepared Right t)) (e ∙ ap (established k) same) ∙ again_answers h inside (ap (λ (t : Tried). t.again) z)
+      pub twice : Sound s.chain → k + 1 < s.chain.num_qubits → (u : State) → u ≡ s → (w : List Float) (r : Cut) → CutOf gate k u w r → r.kept.resolvable ≡ true
+          → (v : State) → v ≡ established k u → (x : Answered) → x ≡ prepared_by gate k (prepared Right v) → x ≡ adjacent_by gate k s
+      twice h inside u same w r o z v e x f =
+          let t : (cut_with gate k false (prepared Right s)).again ≡ true = ap (λ (y : Tried). y.again) (cut_again gate k s u same w r o z) in
+          f ∙ ap (λ (y : State). prepared_by gate k (prepared Right y)) (e ∙ ap (established k) same) ∙ again_answers h inside t

@@ -1,5 +1,5 @@
 -- A pair of neighbours: room to cut it, and the record after the cut.
-use Rattle.std.specs.Prelude.{ℕ, ◌+◌, ◌*◌, ◌%◌, ◌^◌, ◌≤◌, ◌<◌, min, ◌≡◌, refl, List, ltb, length, Float, Option}
+use Rattle.std.specs.Prelude.{ℕ, ◌+◌, ◌*◌, ◌%◌, ◌^◌, ◌≤◌, ◌<◌, min, ◌≡◌, List, ltb, length, Float, Option}
 use Rattle.std.proofs.Common.{ap, sym, ◌∙◌, mul-le-mul, mod-eq_of_lt, arith, le-ltb}
 use Rattle.std.proofs.Math.Nat.{min-eq_right, pow-le-pow_right}
 use Rattle.std.proofs.Math.Decide.{dec_lt}
@@ -14,20 +14,21 @@ use Rattle.model.proofs.Laws.SoundChanges.{center_sound, bond_sound, recorded_so
 use Rattle.cutting.specs.Shape.{shape_of, room, room_fits}
 use Rattle.model.specs.declared.Bonds.{Bonds}
 use Rattle.moves.specs.Bonds.{Bytes}
-use Rattle.moves.specs.Ready.{Ready, Stays}
+use Rattle.moves.specs.Ready.{Ready}
 use Rattle.moves.specs.Steps.{Pair, first_slot, second_slot, second_after}
 
 -- the bond, the widest bond so far, the weights discarded so far, the chain's and the bond's, with a cut's shares added, and the centre
 abbrev pub recorded_cut : Chain → ℕ → ℕ → List Float → Option ℕ → Chain
 recorded_cut c k chi shares at = with_center (cut_recorded k chi shares (with_bond c k chi)) at
 
--- it is sound
-pub cut_stays : {c : Chain} {store out work : List Float} → Ready c store work → (k : ℕ) → k + 1 < c.num_qubits → (chi : ℕ) (shares : List Float) → 1 ≤ chi → chi ≤ c.max_bond_dim → length out ≡ length store
-    → Stays c (recorded_cut c k chi shares c.center) store out work work
-cut_stays {c} h k l chi shares least most n =
+-- the record r after a cut that keeps chi values is ready for the next, with the store as written
+pub cut_ready : (c r : Chain) (store out work : List Float) (k chi : ℕ) (shares : List Float) → Ready c store work → k + 1 < c.num_qubits → 1 ≤ chi → chi ≤ c.max_bond_dim
+    → r ≡ recorded_cut c k chi shares c.center → length out ≡ length store → Ready r out work
+cut_ready c r store out work k chi shares h l least most e n =
     let x = recorded_sound c h.sound k chi shares l most in
     let y = bond_sound (cut_recorded k chi shares c) x k chi l least (omega arith) in
-    record { sound = center_sound (with_bond (cut_recorded k chi shares c) k chi) y c.center h.sound.centre; qubits = refl; cap = refl; store_length = n; work_length = refl }
+    let z = center_sound (with_bond (cut_recorded k chi shares c) k chi) y c.center h.sound.centre in
+    record { sound = rw e z; store_room_lem = rw (e, n) h.store_room_lem; work_room_lem = rw e h.work_room_lem }
 
 -- the numbers that a cut of these bonds works in
 abbrev needed : Bonds → ℕ

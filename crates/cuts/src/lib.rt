@@ -55,6 +55,7 @@ fn keeps_center(chain: &Chain, bonds: Bonds) -> bool
 // ---- one cut
 
 // The pair k, k + 1 with the gate on it, decomposed at the front of the work slice; nothing where one of its values is a NaN.
+#[tactic(auto, using(moves::specs::Ready::pair_ready, crate::specs::Pair::work_enough, crate::specs::Pair::left_numbers, crate::specs::Pair::right_numbers))]
 fn decompose_pair(mps: &mut Mps, gate: [[Complex; 4]; 4], k: usize) -> Option<Decomposed>
     requires { k + 1 < mps.old.chain.now.num_qubits }
     ensures unchanged { state mps.new ≡ state mps.old }
@@ -137,6 +138,7 @@ fn record_cut(chain: &mut Chain, k: usize, kept: Kept)
 }
 
 // The cut stored, its weight on one side; the centre stays where it is recorded.
+#[tactic(auto, using(moves::specs::Ready::pair_ready, crate::specs::Pair::pair_with))]
 fn store_cut(mps: &mut Mps, cut: &Cut, k: usize, side: WeightSide)
     requires k_bound { k + 1 < mps.old.chain.now.num_qubits }
     requires cut_value { Storable k mps.old.chain.now mps.old.work.now cut.now }
@@ -166,6 +168,7 @@ fn weight_site(side: WeightSide, k: usize) -> usize
 }
 
 // The cut of a pair that the centre is on, which is left on the given side.
+#[tactic(auto, using(crate::specs::Attempts::prepared_nan, std::proofs::lemmas::Result::err_from_is_err_and))]
 fn cut_prepared(mps: &mut Mps, gate: [[Complex; 4]; 4], k: usize, side: WeightSide) -> Applied
     requires { k + 1 < mps.old.chain.now.num_qubits }
     ensures value { answered result (state mps.new) ≡ prepared_by gate k (prepared side (state mps.old)) }
@@ -190,6 +193,7 @@ fn cut_centered(mps: &mut Mps, gate: [[Complex; 4]; 4], k: usize) -> Applied
 // A gate on the sites k and k + 1: refused by 6 above the workspace; else the cut, with a centre where one is kept. Where
 // weight would be lost without one, a centre is established and the cut made again; no bond is wider then, so 6 is not
 // asked again.
+#[tactic(auto, using(crate::specs::Attempts::adjacent_above, crate::specs::Attempts::centered_once, crate::specs::Attempts::bare_nan, crate::specs::Attempts::twice, std::proofs::lemmas::Result::err_from_is_err_and))]
 pub fn apply_adjacent_two_qubit(mps: &mut Mps, gate: [[Complex; 4]; 4], k: usize) -> Applied
     requires { k + 1 < mps.old.chain.now.num_qubits }
     ensures value { let s = state mps.old in answered result (state mps.new) ≡ answered_by (adjacent_reason gate k s) (adjacent gate k s) }

@@ -10,6 +10,7 @@ use Rattle.gates.specs.Named.{matrix_of}
 use Rattle.gates.specs.declared.NamedGate.TheVariants.{Swap}
 use Rattle.model.specs.Answers.{Answer, Applied, refusal_of}
 use Rattle.model.specs.declared.Reason.{Reason}
+use Rattle.model.specs.declared.Chain.{Chain}
 use Rattle.model.specs.Chain.{site_of}
 use Rattle.model.specs.Slots.{State, held}
 use Rattle.model.specs.Cut.{Ran, ran, adjacent, adjacent_reason}
@@ -85,22 +86,25 @@ follow_then r f g = pick (eqb r.refused 0) refl
     pick true e = refl
     pick false e = ap (λ (b : Bool). cond b (g r.state) r) e
 
--- ---- one swap: the cut, then the labels
+-- ---- one swap: the cut with the gate g, then the labels
 
-module _ (k : ℕ) (s : State) (a : Applied) (t : State) (reason : Reason) (e : answered a t ≡ answered_by reason (adjacent (matrix_of Swap) k s)) where
+module _ (k : ℕ) (s : State) (g : List (List Complex)) (eg : g ≡ matrix_of Swap) (a : Applied) (t : State) (reason : Reason) (e : answered a t ≡ answered_by reason (adjacent g k s)) where
   -- what follows the cut
   abbrev labelled : State → Ran
   labelled u = ran 0 (held (relabelled k u.chain) u.store)
 
-  pub step_out : (n : ℕ) → a ≡ Err n → passed (Err n) t ≡ passed_by (stepped (swap_step k) s)
+  swapped : (x : Ran) → x ≡ adjacent g k s → follow x labelled ≡ stepped (swap_step k) s
   unfolding stepped
-  step_out n f =
-      let x = ran_refused reason (adjacent (matrix_of Swap) k s) n t (ap (λ (b : Applied). answered b t) (sym f) ∙ e) in
-      refused_passed (stepped (swap_step k) s) n t x.1 (sym (ap (λ (r : Ran). follow r labelled) (sym x.0) ∙ follow_out (ran n t) labelled x.1))
+  swapped x f = ap (λ (r : Ran). follow r labelled) (f ∙ ap (λ (m : List (List Complex)). adjacent m k s) eg)
 
-  pub step_on : (r : Reason) → a ≡ Ok r → passed (Ok tt) (labelled t).state ≡ passed_by (stepped (swap_step k) s)
-  unfolding stepped
-  step_on r f = on_passed (stepped (swap_step k) s) (labelled t).state (ap (λ (x : Ran). follow x labelled) (ran_done reason (adjacent (matrix_of Swap) k s) r t (ap (λ (b : Applied). answered b t) (sym f) ∙ e)))
+  pub step_out : (n : ℕ) → a ≡ Err n → passed (Err n) t ≡ passed_by (stepped (swap_step k) s)
+  step_out n f =
+      let x = ran_refused reason (adjacent g k s) n t (ap (λ (b : Applied). answered b t) (sym f) ∙ e) in
+      refused_passed (stepped (swap_step k) s) n t x.1 (sym (follow_out (ran n t) labelled x.1) ∙ swapped (ran n t) x.0)
+
+  pub step_on : (r : Reason) (c : Chain) → a ≡ Ok r → c ≡ relabelled k t.chain → passed (Ok tt) (held c t.store) ≡ passed_by (stepped (swap_step k) s)
+  step_on r c f l =
+      rw l (on_passed (stepped (swap_step k) s) (labelled t).state (swapped (ran 0 t) (ran_done reason (adjacent g k s) r t (ap (λ (b : Applied). answered b t) (sym f) ∙ e))))
 
 -- ---- the swaps
 

@@ -44,6 +44,7 @@ fn swap_step(mps: &mut Mps, k: usize) -> Answer
 }
 
 // The swaps at far - 1, .., near + 1, up to the first that is refused.
+#[tactic(auto, using(moves::specs::Mps::and_then, crate::specs::Runs::passed_refused, crate::specs::Runs::passed_on, crate::specs::Runs::refused_passed, crate::specs::Runs::on_passed, crate::specs::Runs::swaps_on, crate::specs::Runs::swaps_out, crate::specs::Runs::swaps_done, std::proofs::lemmas::Result::err_from_is_err_and))]
 fn route_swaps(mps: &mut Mps, near: usize, far: usize) -> Answer
     requires { (near < far) × (far < mps.old.chain.now.num_qubits) }
     ensures value { passed result (state mps.new) ≡ passed_by (swaps_down near (far - (near + 1)) (state mps.old)) }
@@ -56,6 +57,7 @@ fn route_swaps(mps: &mut Mps, near: usize, far: usize) -> Answer
 }
 
 // The swaps, then the gate at the near site.
+#[tactic(auto, using(crate::specs::Runs::passed_refused, crate::specs::Runs::passed_on, crate::specs::Runs::gate_on_lem, crate::specs::Runs::gate_out, std::proofs::lemmas::Result::err_from_is_err_and))]
 fn route_gate(mps: &mut Mps, gate: [[Complex; 4]; 4], near: usize, far: usize) -> Applied
     requires { (near < far) × (far < mps.old.chain.now.num_qubits) }
     ensures value { let s = state mps.old in answered result (state mps.new) ≡ answered_by (routed_reason gate near (far - (near + 1)) s) (routed_gate gate near (far - (near + 1)) s) }
@@ -75,6 +77,7 @@ fn gate_between(gate: [[Complex; 4]; 4], p: usize, q: usize) -> [[Complex; 4]; 4
 }
 
 // The gate on the qubits q0 and q1.
+#[tactic(auto, using(crate::specs::Runs::run_between))]
 pub fn apply_two_qubit_gate(mps: &mut Mps, gate: [[Complex; 4]; 4], q0: usize, q1: usize) -> Applied
     requires { (q0 < mps.old.chain.now.num_qubits) × (q1 < mps.old.chain.now.num_qubits) × (q0 ≢ q1) }
     ensures value { let s = state mps.old in answered result (state mps.new) ≡ answered_by (gate_reason gate q0 q1 s) (gate_run gate q0 q1 s) }

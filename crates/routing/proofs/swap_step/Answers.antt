@@ -6,11 +6,11 @@ use Rattle.routing.proofs.swap_step.Goals as goal
 
 pub returns-in_err-_reason-clause-value : goal.returns-in_err-_reason-clause-value
 returns-in_err-_reason-clause-value c = let p = err_from_is_err_and c.from_residual.result c.from_residual.ensures.1 in
-    rw (p.1, p.2) (step_out _ _ _ _ _ (rw c.matrix_4x4-gate.ensures at c.apply_adjacent_two_qubit.ensures.value) _ c.in_err-_reason.was)
+    rw (p.1, p.2) (step_out _ _ _ c.matrix_4x4-gate.ensures _ _ _ c.apply_adjacent_two_qubit.ensures.value _ c.in_err-_reason.was)
 
 pub invariant_of-mps : goal.invariant_of-mps
-invariant_of-mps c = let m = c.apply_adjacent_two_qubit.new.mps in
-    record { ready = rw c.swap_layout_labels.ensures (relabelled_ready _ _ _ _ (omega (arith, c.requires, c.apply_adjacent_two_qubit.ensures.place.stays.qubits)) m.ready) }
+invariant_of-mps c = let m = c.apply_adjacent_two_qubit in
+    record { ready = relabelled_ready _ _ _ _ _ m.new.mps.ready (omega (arith, c.requires, m.ensures.place.stays.qubits)) c.swap_layout_labels.ensures }
 
 pub returns-clause-value : goal.returns-clause-value
-returns-clause-value c = rw c.swap_layout_labels.ensures (step_on _ _ _ _ _ (rw c.matrix_4x4-gate.ensures at c.apply_adjacent_two_qubit.ensures.value) _ c.in_ok-_reason.was)
+returns-clause-value c = step_on _ _ _ c.matrix_4x4-gate.ensures _ _ _ c.apply_adjacent_two_qubit.ensures.value _ _ c.in_ok-_reason.was c.swap_layout_labels.ensures
