@@ -24,6 +24,7 @@ use sound::is_share;
 // ---- the fresh chain
 
 // What start answers and leaves of the all-zero record.
+#[tactic(auto, using(crate::specs::Ends::start_ends, crate::specs::Ends::start_refused, std::proofs::lemmas::Result::err_from_is_err_and))]
 fn try_start(
     chain: &mut Chain,
     n: usize,
@@ -55,6 +56,7 @@ pub fn start(n: usize, d: usize, epsilon: f64, clamp: f64, exponent: u8, store: 
 // ---- gates
 
 // What a gate call answers and leaves.
+#[tactic(auto, using(crate::specs::Ends::gate_refused, std::proofs::lemmas::Result::err_from_is_err_and))]
 fn try_gate(
     chain: &mut Chain,
     store: &mut [f64],
@@ -88,6 +90,7 @@ pub fn apply_gate(
 }
 
 // A gate by its name.
+#[tactic(auto, using(crate::specs::Ends::named_ends))]
 pub fn apply_named_gate(
     chain: Chain,
     store: &mut [f64],
@@ -106,6 +109,7 @@ pub fn apply_named_gate(
 
 // Qubit q projected on the outcome `bit`. A refusal is one of three answers that stand side by side, so that it is matched
 // and not handed on by the question mark.
+#[tactic(auto, using(crate::specs::Ends::project_refused))]
 pub fn project(chain: Chain, store: &mut [f64], work: &mut [f64], q: usize, bit: bool) -> Projection
     ensures { after result.answer (held result.chain store.new) work.new ≡ project_call (held chain store.old) work.old q bit }
 {
@@ -119,6 +123,7 @@ pub fn project(chain: Chain, store: &mut [f64], work: &mut [f64], q: usize, bit:
 }
 
 // What a measurement answers and leaves.
+#[tactic(auto, using(crate::specs::Ends::measure_refused, std::proofs::lemmas::Result::err_from_is_err_and))]
 fn try_measure(
     chain: &mut Chain,
     store: &mut [f64],
@@ -151,6 +156,7 @@ pub fn measure(
 }
 
 // What a reset answers and leaves.
+#[tactic(auto, using(crate::specs::Ends::reset_refused, std::proofs::lemmas::Result::err_from_is_err_and))]
 fn try_reset(chain: &mut Chain, store: &mut [f64], work: &mut [f64], q: usize, draw: f64) -> Answer
     ensures { after result (held chain.new store.new) work.new ≡ reset_call (held chain.old store.old) work.old q draw }
 {
