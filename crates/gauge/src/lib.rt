@@ -18,6 +18,7 @@ use model::Bonds;
 // ---- a site as the matrix that is factored
 
 // The site as a matrix of 2 * bl rows and `bond` columns, by columns.
+#[tactic(auto, using(crate::proofs::Rows::rows_served))]
 pub fn right_matrix(site: &[f64], out: &mut [f64], bl: usize, bond: usize)
     requires { (bl ≤ 128) × (bond ≤ 128) × (2 * bl * bond ≤ count site.now) × (length out.old ≡ 2 * (bond * (2 * bl))) }
     ensures { out.new ≡ right_matrix bl bond site.now }

@@ -1,7 +1,5 @@
 use Prim.Native.Nat.{ℕ, ◌+◌, ◌*◌}
-use native.Mathlib.Nat.{mul-le-mul_right}
 use native.Mathlib.Omega.{arith}
-use Rattle.std.proofs.iter.Serving.{serving}
 use mathlib.Core.Path.{◌∙◌}
 use Rattle.std.proofs.Common.{rules}
 use Rattle.complex.specs.Numbers.{at}
@@ -13,6 +11,3 @@ pub returns : goal.returns
 returns c = let a = c.args in
     let f : ℕ → ℕ → Complex = λ g r. at a.site.now (r * a.bond + g) in
     c.fill_rows.ensures f (λ g r z l m p. search rules) ∙ whole_rows a.bond (2 * a.bl) f _ (omega arith)
-
-pub fill_rows-requires : goal.fill_rows-requires
-fill_rows-requires c = (omega arith, omega arith, omega arith, λ g r h l. let m = mul-le-mul_right c.args.bond l in grind (arith, serving))
