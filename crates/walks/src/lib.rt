@@ -1,6 +1,6 @@
 // One step of each environment walk. An environment of dimension d is d * d complex numbers by rows, at the front of the work slice.
 // A step writes the inner sums behind it, then the new environment behind these, and copies that to the front.
-#![tactic(auto)]
+#![tactic(auto, using(complex::specs::Loops::each_none, complex::specs::Loops::each_more), unfolding(crate::specs::Products::plus_unless_zero, crate::specs::Products::few_left, crate::specs::Products::inner_left, crate::specs::Products::many_left, crate::specs::Products::entry_left, crate::specs::Products::few_right, crate::specs::Products::inner_right, crate::specs::Products::many_right, crate::specs::Products::entry_right))]
 
 ghost use Rattle.std.specs.Prelude.{ℕ, ◌≡◌, ◌+◌, ◌*◌, ◌/◌, ◌%◌, ◌<◌, ◌≤◌, cond, eqb, length, take};
 ghost use Rattle.complex.specs.Complex.{real, zero_c, one_f};
@@ -90,7 +90,7 @@ fn plus_unless_zero(e: Complex, x: Complex, acc: Complex) -> Complex
 }
 
 // The terms of both bits of the entry e of a left environment at (a, a1), added to acc, unless e is zero.
-#[tactic(auto, unfolding(crate::specs::Products::term_left))]
+#[tactic(auto, unfolding(complex::specs::Loops::each, crate::specs::Products::cell_left, crate::specs::Products::term_left))]
 fn left_cell(
     site: Site,
     a: usize,
@@ -196,10 +196,11 @@ pub fn left_across(site: Site, work: &mut [f64])
     copy_down(work, to, br * br);
 }
 
-// ---- a right environment across a site: no twin of the left one, whose sums skip zeros and multiply the entry first
+// ---- a right environment across a site: mirror images of the functions above, and no twins, since the left sums
+// multiply the entry first and skip zeros where these do not
 
 // The terms of both bits of the entry e of a right environment at (b, b1), added to acc, unless e is zero.
-#[tactic(auto, unfolding(crate::specs::Products::term_right))]
+#[tactic(auto, unfolding(complex::specs::Loops::each, crate::specs::Products::cell_right, crate::specs::Products::term_right))]
 fn right_cell(
     site: Site,
     a: usize,
