@@ -55,6 +55,7 @@ impl<'a, 'b> Columns<'a, 'b> {
 // ---- any matrix
 
 // One row: its numbers in order.
+#[tactic(auto, using(complex::specs::Loops::each_none, complex::specs::Loops::each_more))]
 fn fill_row<F: Fn(usize, usize) -> Complex>(out: &mut [f64], number: &F, r: usize, wide: usize)
     requires { (length out.old ≡ 2 * wide) × ((c : ℕ) → c < wide → F.pre number.now r c) }
     ensures { (f : ℕ → _) → ((c : ℕ) (z : _) → c < wide → F.post number.now r c z → z ≡ f c) → out.new ≡ numbers wide f }
@@ -66,6 +67,7 @@ fn fill_row<F: Fn(usize, usize) -> Complex>(out: &mut [f64], number: &F, r: usiz
 
 // The rows of a matrix, one after the other: number c of row r is number(r, c). They are lent by index, since
 // `chunks_exact_mut` takes no empty rows, and no column may be kept.
+#[tactic(auto, using(complex::specs::Matrix::block_none))]
 pub fn fill_rows<F: Fn(usize, usize) -> Complex>(
     slot: &mut [f64],
     high: usize,

@@ -2,8 +2,7 @@
 use mathlib.Core.Path.{◌≡◌, sym, ◌∙◌}
 use mathlib.Core.List.{List}
 use Rattle.std.specs.Prelude.{Bool, true, false, cond}
-use Prim.Native.Nat.{ℕ, ◌+◌, ◌*◌, ◌/◌, ◌%◌, ◌≤◌, ◌<◌}
-use native.Mathlib.Nat.{mul-le-mul}
+use Prim.Native.Nat.{ℕ, ◌+◌, ◌*◌, ◌/◌, ◌%◌, ◌<◌}
 use native.Mathlib.Omega.{arith}
 use lib.ListN.{length}
 use lib.Ieee.{Float}
@@ -12,8 +11,8 @@ use Rattle.complex.specs.Loops.{each}
 use Rattle.complex.specs.Numbers.{count, at, store, numbers, length_numbers, at_numbers, length_stores, at_stores, at_stores_other, each_length, each_apart, each_at, ext_at}
 use Rattle.complex.specs.Matrix.{rows, cell_below, cell_row, cell_column, by_cells, length_rows, at_rows}
 use Rattle.complex.specs.declared.Complex.{Complex}
-use Rattle.model.specs.Pair.{matrix_of, adjoint_of}
-use Rattle.pair.specs.Blocks.{block_of, conjugated, stored, straight_place, adjoint_place, adjoint, place_of, element_of, block, line, lines}
+use Rattle.model.specs.Pair.{gated_theta, matrix_of, adjoint_of}
+use Rattle.pair.specs.Blocks.{conjugated, gated_block, stored, straight_place, adjoint_place, adjoint, place_of, element_of, block, line, lines}
 
 -- an element (a, i, j, b) of a pair of outer bonds bl and br
 record Element (bl br a i j b : ℕ) : Type 0 where
@@ -77,26 +76,20 @@ module _ (bl br : ℕ) (place : Place) (f : ℕ → ℕ → ℕ → ℕ → Comp
 
 -- ---- the matrix by columns
 
-area : (bl br : ℕ) → bl ≤ 128 → br ≤ 128 → 2 * br * (2 * bl) ≤ 65536
-area bl br h l = mul-le-mul {n₂ = 256} {m₂ = 256} (omega arith) (omega arith)
-
--- what is stored for a and b is the block
-pub stored_straight : (bl br : ℕ) (f : ℕ → ℕ → ℕ → ℕ → Complex) (a b : ℕ) (ys : List Float)
-    → stored (b * (2 * bl) + a * 2) 1 (br * (2 * bl)) (block_of (λ i j. f a i j b)) ys ≡ block (straight_place bl br) f b a ys
-unfolding stored block each
-stored_straight bl br f a b ys =
-    let p0 : b * (2 * bl) + a * 2 ≡ straight_place bl br a 0 0 b = omega arith in
-    let p1 : b * (2 * bl) + a * 2 + br * (2 * bl) ≡ straight_place bl br a 0 1 b = omega arith in
-    let p2 : b * (2 * bl) + a * 2 + 1 ≡ straight_place bl br a 1 0 b = omega arith in
-    let p3 : b * (2 * bl) + a * 2 + 1 + br * (2 * bl) ≡ straight_place bl br a 1 1 b = omega arith in
-    λ i. store (store (store (store ys (p0 i) (f a 0 0 b)) (p1 i) (f a 0 1 b)) (p2 i) (f a 1 0 b)) (p3 i) (f a 1 1 b)
+-- the block of a and b is what is stored for them
+pub block_straight : (gate : List (List Complex)) (mid bl br : ℕ) (left right : List Float) (a b : ℕ) (adj : Bool) (ys : List Float) → adj ≡ false
+    → block (place_of adj bl br) (element_of adj (gated_theta gate mid br left right)) b a ys ≡ stored (b * (2 * bl) + a * 2) 1 (br * (2 * bl)) (gated_block gate mid br left right a b) ys
+unfolding stored block each gated_block
+block_straight gate mid bl br left right a b adj ys e =
+    let f = gated_theta gate mid br left right in
+    let p0 : straight_place bl br a 0 0 b ≡ b * (2 * bl) + a * 2 = omega arith in
+    let p1 : straight_place bl br a 0 1 b ≡ b * (2 * bl) + a * 2 + br * (2 * bl) = omega arith in
+    let p2 : straight_place bl br a 1 0 b ≡ b * (2 * bl) + a * 2 + 1 = omega arith in
+    let p3 : straight_place bl br a 1 1 b ≡ b * (2 * bl) + a * 2 + 1 + br * (2 * bl) = omega arith in
+    rw e (λ i. store (store (store (store ys (p0 i) (f a 0 0 b)) (p1 i) (f a 0 1 b)) (p2 i) (f a 1 0 b)) (p3 i) (f a 1 1 b))
 
 straight_below : (bl br a i j b : ℕ) → Element bl br a i j b → straight_place bl br a i j b < 2 * br * (2 * bl)
 straight_below bl br a i j b h = cell_below (2 * bl) (2 * br) (j * br + b) (a * 2 + i) (omega arith) (cell_below br 2 j b h.hb h.hj)
-
--- there is room for the last of a block, and its place is a small number
-pub straight_room : {bl br a b : ℕ} → bl ≤ 128 → br ≤ 128 → a < bl → b < br → (b * (2 * bl) + a * 2 + 1 + br * (2 * bl) < 2 * br * (2 * bl)) × (2 * br * (2 * bl) ≤ 65536)
-straight_room {bl} {br} {a} {b} h l ha hb = let e = straight_below bl br a 1 1 b (record { ha = ha; hi = omega arith; hj = omega arith; hb = hb }) in (omega arith, area bl br h l)
 
 straight_apart : (bl br : ℕ) → Apart bl br (straight_place bl br)
 straight_apart bl br a i j b a' i' j' b' h h' e =
@@ -148,22 +141,19 @@ module _ (bl br : ℕ) (f : ℕ → ℕ → ℕ → ℕ → Complex) where
 
 -- ---- its conjugate transpose by columns
 
-pub stored_adjoint : (br : ℕ) (f : ℕ → ℕ → ℕ → ℕ → Complex) (a b : ℕ) (ys : List Float)
-    → stored (a * 2 * (2 * br) + b) (2 * br) br (conjugated (block_of (λ i j. f a i j b))) ys ≡ block (adjoint_place br) (adjoint f) b a ys
-unfolding stored block each conjugated
-stored_adjoint br f a b ys =
-    let g = adjoint f in
-    let p0 : a * 2 * (2 * br) + b ≡ adjoint_place br a 0 0 b = omega arith in
-    let p1 : a * 2 * (2 * br) + b + br ≡ adjoint_place br a 0 1 b = omega arith in
-    let p2 : a * 2 * (2 * br) + b + 2 * br ≡ adjoint_place br a 1 0 b = omega arith in
-    let p3 : a * 2 * (2 * br) + b + 2 * br + br ≡ adjoint_place br a 1 1 b = omega arith in
-    λ i. store (store (store (store ys (p0 i) (g a 0 0 b)) (p1 i) (g a 0 1 b)) (p2 i) (g a 1 0 b)) (p3 i) (g a 1 1 b)
+pub block_adjoint : (gate : List (List Complex)) (mid bl br : ℕ) (left right : List Float) (a b : ℕ) (adj : Bool) (ys : List Float) → adj ≡ true
+    → block (place_of adj bl br) (element_of adj (gated_theta gate mid br left right)) b a ys ≡ stored (a * 2 * (2 * br) + b) (2 * br) br (conjugated (gated_block gate mid br left right a b)) ys
+unfolding stored block each conjugated gated_block
+block_adjoint gate mid bl br left right a b adj ys e =
+    let f = adjoint (gated_theta gate mid br left right) in
+    let p0 : adjoint_place br a 0 0 b ≡ a * 2 * (2 * br) + b = omega arith in
+    let p1 : adjoint_place br a 0 1 b ≡ a * 2 * (2 * br) + b + br = omega arith in
+    let p2 : adjoint_place br a 1 0 b ≡ a * 2 * (2 * br) + b + 2 * br = omega arith in
+    let p3 : adjoint_place br a 1 1 b ≡ a * 2 * (2 * br) + b + 2 * br + br = omega arith in
+    rw e (λ i. store (store (store (store ys (p0 i) (f a 0 0 b)) (p1 i) (f a 0 1 b)) (p2 i) (f a 1 0 b)) (p3 i) (f a 1 1 b))
 
 adjoint_below : (bl br a i j b : ℕ) → Element bl br a i j b → adjoint_place br a i j b < 2 * bl * (2 * br)
 adjoint_below bl br a i j b h = cell_below (2 * br) (2 * bl) (a * 2 + i) (j * br + b) (cell_below br 2 j b h.hb h.hj) (omega arith)
-
-pub adjoint_room : {bl br a b : ℕ} → bl ≤ 128 → br ≤ 128 → a < bl → b < br → (a * 2 * (2 * br) + b + 2 * br + br < 2 * br * (2 * bl)) × (2 * br * (2 * bl) ≤ 65536)
-adjoint_room {bl} {br} {a} {b} h l ha hb = let e = adjoint_below bl br a 1 1 b (record { ha = ha; hi = omega arith; hj = omega arith; hb = hb }) in (omega arith, area bl br h l)
 
 adjoint_apart : (bl br : ℕ) → Apart bl br (adjoint_place br)
 adjoint_apart bl br a i j b a' i' j' b' h h' e =
@@ -217,6 +207,8 @@ module _ (bl br : ℕ) (f : ℕ → ℕ → ℕ → ℕ → Complex) where
 -- ---- either of the two
 
 module _ (bl br : ℕ) (f : ℕ → ℕ → ℕ → ℕ → Complex) where
-  pub lines_either : (adj : Bool) (xs : List Float) → length xs ≡ 2 * (2 * br * (2 * bl)) → lines bl br (place_of adj bl br) (element_of adj f) xs ≡ cond adj (adjoint_of bl br f) (matrix_of bl br f)
-  lines_either true = lines_adjoint bl br f
-  lines_either false = lines_straight bl br f
+  pub lines_either : (n : ℕ) (adj : Bool) (xs : List Float) → length xs ≡ 2 * (2 * br * (2 * bl)) → n ≡ br
+      → each n (line bl (place_of adj bl br) (element_of adj f)) xs ≡ cond adj (adjoint_of bl br f) (matrix_of bl br f)
+  unfolding lines
+  lines_either n true xs l e = rw e (lines_adjoint bl br f xs l)
+  lines_either n false xs l e = rw e (lines_straight bl br f xs l)

@@ -87,6 +87,7 @@ impl Block {
 }
 
 // Four sums over g < n: of left's number l0 + g or l0 + n + g times right's number g * step + r0 or g * step + r1.
+#[tactic(auto, using(crate::proofs::Sums::dots_none, crate::proofs::Sums::dots_more))]
 fn dots(
     left: &[f64],
     l0: usize,
@@ -124,6 +125,7 @@ pub struct Neighbours<'a> {
 
 impl<'a> Neighbours<'a> {
     // The four elements of a and b, with the gate on them.
+    #[tactic(auto, using(crate::proofs::Sums::mixed_dots))]
     fn block(&self, a: usize, b: usize) -> Block
         requires { (a < self.now.bonds.left) × (b < self.now.bonds.right) }
         ensures { result ≡ gated_block self.now.gate.now self.now.bonds.mid self.now.bonds.right self.now.left.now self.now.right.now a b }
@@ -135,6 +137,7 @@ impl<'a> Neighbours<'a> {
     }
 
     // The elements of one b, by columns: row a * 2 + i and column j * br + b, or the conjugates with row and column exchanged.
+    #[tactic(auto, using(complex::specs::Loops::each_none, complex::specs::Loops::each_more, crate::proofs::Places::block_straight, crate::proofs::Places::block_adjoint), unfolding(crate::specs::Blocks::line))]
     fn contract_line<const ADJOINT: bool>(&self, out: &mut [f64], b: usize)
         requires { (b < self.now.bonds.right) × (length out.old ≡ 2 * (2 * self.now.bonds.right * (2 * self.now.bonds.left))) }
         ensures { out.new ≡ line self.now.bonds.left (place_of ADJOINT self.now.bonds.left self.now.bonds.right) (element_of ADJOINT (gated_theta self.now.gate.now self.now.bonds.mid self.now.bonds.right self.now.left.now self.now.right.now)) b out.old }
@@ -154,6 +157,7 @@ impl<'a> Neighbours<'a> {
 
     // The gate on the two sites' contraction, as a matrix of 2 * bonds.left rows and 2 * bonds.right columns, by columns.
     // ADJOINT: its conjugate transpose, by columns. The conjugate is taken after the gate.
+    #[tactic(auto, using(complex::specs::Loops::each_none, complex::specs::Loops::each_more, crate::proofs::Places::lines_either))]
     pub fn contract<const ADJOINT: bool>(&self, out: &mut [f64])
         requires { length out.old ≡ 2 * (2 * self.now.bonds.right * (2 * self.now.bonds.left)) }
         ensures { let th = gated_theta self.now.gate.now self.now.bonds.mid self.now.bonds.right self.now.left.now self.now.right.now in out.new ≡ cond ADJOINT (adjoint_of self.now.bonds.left self.now.bonds.right th) (matrix_of self.now.bonds.left self.now.bonds.right th) }

@@ -1,8 +1,8 @@
 -- The invariant: the first r rows stand in the slot, whatever they are, and the rest is as it was.
 use mathlib.Core.Path.{◌≡◌}
 use mathlib.Core.List.{◌++◌}
-use Prim.Native.Nat.{ℕ, ◌≤◌, ◌<◌, ◌*◌}
-use lib.ListN.{length, drop}
+use Prim.Native.Nat.{ℕ, ◌<◌, ◌*◌}
+use lib.ListN.{drop}
 use Rattle.complex.specs.Numbers.{numbers}
 use Rattle.complex.specs.Matrix.{rows}
 use Rattle.complex.specs.declared.Complex.{Complex}
@@ -10,6 +10,5 @@ use Rattle.fills.proofs.fill_rows.Given as goal
 
 abbrev pub invariant-loop-r : goal.invariant-loop-r
 invariant-loop-r g l =
-    (l.r ≤ l.high)
-    × (length l.slot ≡ length l.initial.slot)
-    × ((f : ℕ → ℕ → Complex) → ((r c : ℕ) (z : Complex) → r < l.high → c < l.wide → goal.F-post g l.number r c z → z ≡ f r c) → l.slot ≡ rows l.r (λ r. numbers l.wide (f r)) ++ drop (l.r * l.size) l.initial.slot)
+    (f : ℕ → ℕ → Complex) → ((r c : ℕ) (z : Complex) → r < l.high → c < l.wide → goal.F-post g l.number r c z → z ≡ f r c)
+    → l.slot ≡ rows l.r (λ r. numbers l.wide (f r)) ++ drop (l.r * l.size) l.initial.slot
