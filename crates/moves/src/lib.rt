@@ -337,7 +337,7 @@ impl<'a> Mps<'a> {
             None => self.establish_center(k),
             // a routed gate's next swap finds the centre on its pair
             Some(from) => if from != k {
-                self.move_center(from, k)
+                self.move_center(from, k);
             },
         }
     }

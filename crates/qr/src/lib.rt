@@ -3,7 +3,7 @@
 // from wide * high on.
 #![tactic(auto, using(complex::specs::Loops::each_none, complex::specs::Loops::each_more, complex::specs::Loops::between_none, complex::specs::Loops::between_more), unfolding(model::specs::Qr::term, model::specs::Qr::taken_away, model::specs::Qr::projected_on, model::specs::Qr::pass_of, model::specs::Qr::kept_of, model::specs::Qr::raised))]
 
-ghost use Rattle.std.specs.Prelude.{◌≡◌, ◌+◌, ◌*◌, ◌<◌, ◌≤◌, [], ◌∷◌, min, max, length, take};
+ghost use Rattle.std.specs.Prelude.{◌≡◌, ◌+◌, ◌*◌, ◌^◌, ◌<◌, ◌≤◌, [], ◌∷◌, min, max, length, take};
 ghost use Rattle.complex.specs.Loops.{between};
 ghost use Rattle.complex.specs.Numbers.{count};
 ghost use Rattle.model.specs.Qr as qr;
@@ -91,33 +91,34 @@ fn take_away(w: &mut [f64], from: usize, to: usize, n: usize, d: Complex)
     }
 }
 
-// The sizes of a matrix of `high` rows and `wide` columns and of r behind it, which has `cap` rows, as q has columns at most;
-// and how many numbers the two have. The slice is lent to each method: held in the struct, it would ask each contract to say
-// that slice and sizes are the same after the call.
+// The sizes of a matrix of `high` rows and `wide` columns and of r behind it, which has `cap` rows, as q has columns at most.
+// The slice is lent to each method: held in the struct, it would ask each contract to say that slice and sizes are the same
+// after the call.
 #[derive(Clone, Copy)]
 struct ThinQr {
     high: usize,
     wide: usize,
     cap: usize,
-    len: usize,
     ghost some: { (0 < high) × (0 < wide) },
     ghost few: { cap ≡ min high wide },
-    ghost whole: { len ≡ wide * high + cap * wide },
+    ghost fits: { wide * high + cap * wide < 2 ^ 64 },
 }
 
 impl ThinQr {
+    ghost use Rattle.qr.specs.Thin.{numbers};
+
     // Where r's entry (i, j) stands.
     fn entry(self, i: usize, j: usize) -> usize
         requires { (i < self.cap) × (j < self.wide) }
         ensures value { result ≡ qr.entry_at self.high self.wide i j }
-        ensures upper_bound { result < self.len }
+        ensures upper_bound { result < numbers self }
     {
         self.wide * self.high + (i * self.wide + j)
     }
 
     // Column j's part along column i of q is taken from it, and added to r's entry (i, j).
     fn project_on(self, w: &mut [f64], j: usize, i: usize)
-        requires { (i < self.cap) × (j < self.wide) × (self.len ≤ count w.old) }
+        requires { (i < self.cap) × (j < self.wide) × (numbers self ≤ count w.old) }
         ensures { w.new ≡ qr.projected_on self.high self.wide j i w.old }
     {
         let columns = Runs {
@@ -134,7 +135,7 @@ impl ThinQr {
 
     // One pass along each of the columns kept; the residual is the norm of what is left.
     fn one_pass(self, w: &mut [f64], rank: usize, j: usize) -> f64
-        requires { (rank ≤ self.cap) × (j < self.wide) × (self.len ≤ count w.old) }
+        requires { (rank ≤ self.cap) × (j < self.wide) × (numbers self ≤ count w.old) }
         ensures { qr.passed result w.new ≡ qr.pass_of self.high self.wide rank j w.old }
     {
         for i in 0..rank {
@@ -145,7 +146,7 @@ impl ThinQr {
 
     // Column j is kept as column `rank` of q if there is room and enough of it is left. Answers how many are kept.
     fn keep(self, w: &mut [f64], j: usize, norm: f64, rank: usize, residual: f64) -> usize
-        requires { (rank ≤ self.cap) × (j < self.wide) × (self.len ≤ count w.old) }
+        requires { (rank ≤ self.cap) × (j < self.wide) × (numbers self ≤ count w.old) }
         ensures w_after { qr.kept result w.new ≡ qr.kept_of self.high self.wide self.cap j norm rank (qr.passed residual w.old) }
         ensures upper_bound { result ≤ self.cap }
     {
@@ -163,7 +164,7 @@ impl ThinQr {
 
     // Where no column is kept, q becomes (1, 0, ..), and r stays 0.
     fn raise(self, w: &mut [f64], rank: usize) -> usize
-        requires { self.len ≤ count w.old }
+        requires { numbers self ≤ count w.old }
         ensures w_after { qr.kept result w.new ≡ qr.raised self.high (qr.kept rank w.old) }
         ensures value { result ≡ max rank 1 }
     {
@@ -185,12 +186,7 @@ pub fn factorize_gram_schmidt(w: &mut [f64], high: usize, wide: usize) -> usize
     ensures result_nonzero { (0 < result) × (result ≤ min high wide) }
 {
     let cap = high.min(wide);
-    let thin = ThinQr {
-        high,
-        wide,
-        cap,
-        len: wide * high + cap * wide,
-    };
+    let thin = ThinQr { high, wide, cap };
     clear_from(w, 2 * (wide * high));
     let mut rank = 0usize;
     for j in 0..wide {

@@ -1,0 +1,2 @@
+-- How many numbers a matrix and its r have.
+pub mod Thin
