@@ -180,8 +180,7 @@ FORMS = [
     ("cuts", "decompose_pair", LENT_TO_READ),
     ("moves", "step_right", LENT_TO_READ),
     ("moves", "step_left", LENT_TO_READ),
-    ("environments", "left_step", LENT_TO_READ),
-    ("environments", "right_step", LENT_TO_READ),
+    ("environments", "site_at", LENT_TO_READ),
 ]
 # The same of types: crate, what its text has to hold.
 TYPES = [

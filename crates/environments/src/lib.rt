@@ -1,35 +1,49 @@
 // The environments of a site, by a walk over the chain's sites from one end. The environment stands at
-// the front of the work slice, as many complex numbers as its dimension squared.
+// the front of the work slice, as many complex numbers as its dimension squared. Left and right are
+// mirror images and no twins: their steps are other sums (see `walks`), and go over the sites in
+// opposite orders.
 #![tactic(auto)]
 
-ghost use Rattle.std.specs.Prelude.{◌≡◌, ◌++◌, ◌*◌, ◌<◌, ◌≤◌, length, take, drop};
-ghost use Rattle.model.specs.Slots.{held, slot_of};
-ghost use Rattle.model.specs.Environment.{left_across, right_across, left_env, right_env};
-ghost use Rattle.walks.specs.Products.{env_of};
-ghost use Rattle.environments.specs.Walk.{Walkable, Crossing};
+ghost use Rattle.std.specs.Prelude.{◌≡◌, ◌++◌, ◌+◌, ◌*◌, ◌<◌, ◌≤◌, length, take, drop};
+ghost use Rattle.model.specs.Chain.{bond_left, bond_right};
+ghost use Rattle.model.specs.Slots.{held, slot_of, slot_room};
+ghost use Rattle.model.specs.Environment.{identity_env, left_env, right_env};
+ghost use Rattle.environments.specs.Walk.{Housed, Walkable};
 
 use model::Chain;
 use walks::{Site, identity, left_across, right_across};
 
-// ---- the left environment
-
-// The environment at the front of the work slice, of dimension bl, across site k.
-fn left_step(store: &[f64], work: &mut [f64], d: usize, k: usize, bl: usize, br: usize)
-    requires { Crossing d k bl br store.now work.old }
-    ensures { take (2 * (br * br)) work.new ≡ (left_across bl br (slot_of d k store.now) (env_of bl (take (2 * (bl * bl)) work.old))).entries }
+// The identity of a dimension, at the front of the work slice.
+fn identity_at_front(work: &mut [f64], dim: usize)
+    requires { (1 ≤ dim) × (dim ≤ 128) × (2 * (dim * dim) ≤ length work.old) }
+    ensures { take (2 * (dim * dim)) work.new ≡ (identity_env dim).entries }
 {
-    let slot = 4 * d * d;
+    let e = 2 * (dim * dim);
+    identity(&mut work[..e], dim);
+}
+
+// Site k with its bonds.
+fn site_at<'a>(chain: &Chain, store: &'a [f64], k: usize) -> Site<'a>
+    requires housed { Housed chain.now store.now }
+    requires k_bound { k < chain.now.num_qubits }
+    ensures numbers { result.numbers.now ≡ slot_of chain.now.max_bond_dim k store.now }
+    ensures bonds { (result.left ≡ bond_left chain.now k) × (result.right ≡ bond_right chain.now k) }
+    ensures room { result.left * result.left + 2 * (result.left * result.right) + result.right * result.right ≤ slot_room chain.now.max_bond_dim }
+{
+    let left = usize::from(chain.bond_left[k]);
+    let right = usize::from(chain.bond_right[k]);
+    let slot = 4 * chain.max_bond_dim * chain.max_bond_dim;
     let a = k * slot;
     let e = a + slot;
-    let site = Site {
+    Site {
         numbers: &store[a..e],
-        left: bl,
-        right: br,
-    };
-    left_across(site, work);
+        left,
+        right,
+    }
 }
 
 // The left environment of a site, the sites from `from` on contracted: its dimension.
+#[tactic(auto, using(crate::specs::Walk::left_start, crate::specs::Walk::left_turn, crate::specs::Walk::left_done))]
 pub fn compute_left_env(
     chain: &Chain,
     store: &[f64],
@@ -42,37 +56,18 @@ pub fn compute_left_env(
     ensures value { result ≡ (left_env from site (held chain.now store.now)).dim }
     ensures work_after { take (2 * (result * result)) work.new ≡ (left_env from site (held chain.now store.now)).entries }
 {
-    let d = chain.max_bond_dim;
     let mut dim = usize::from(chain.bond_left[from]);
-    let e = 2 * (dim * dim);
-    identity(&mut work[..e], dim);
+    identity_at_front(work, dim);
     for k in from..site {
-        let br = usize::from(chain.bond_right[k]);
-        left_step(store, work, d, k, dim, br);
-        dim = br;
+        let crossed = site_at(chain, store, k);
+        left_across(crossed, work);
+        dim = crossed.right;
     }
     dim
 }
 
-// ---- the right environment
-
-// The environment at the front of the work slice, of dimension br, across site k.
-fn right_step(store: &[f64], work: &mut [f64], d: usize, k: usize, bl: usize, br: usize)
-    requires { Crossing d k bl br store.now work.old }
-    ensures { take (2 * (bl * bl)) work.new ≡ (right_across bl br (slot_of d k store.now) (env_of br (take (2 * (br * br)) work.old))).entries }
-{
-    let slot = 4 * d * d;
-    let a = k * slot;
-    let e = a + slot;
-    let site = Site {
-        numbers: &store[a..e],
-        left: bl,
-        right: br,
-    };
-    right_across(site, work);
-}
-
 // The right environment of a site, the sites from `to` back to the next one contracted: its dimension.
+#[tactic(auto, using(crate::specs::Walk::right_start, crate::specs::Walk::right_turn, crate::specs::Walk::right_done))]
 pub fn compute_right_env(
     chain: &Chain,
     store: &[f64],
@@ -85,15 +80,13 @@ pub fn compute_right_env(
     ensures value { result ≡ (right_env site to (held chain.now store.now)).dim }
     ensures work_after { take (2 * (result * result)) work.new ≡ (right_env site to (held chain.now store.now)).entries }
 {
-    let d = chain.max_bond_dim;
     let mut dim = usize::from(chain.bond_right[to]);
-    let e = 2 * (dim * dim);
-    identity(&mut work[..e], dim);
+    identity_at_front(work, dim);
     // across the sites to, to - 1, .., site + 1
     for k in (site..to).rev() {
-        let bl = usize::from(chain.bond_left[k + 1]);
-        right_step(store, work, d, k + 1, bl, dim);
-        dim = bl;
+        let crossed = site_at(chain, store, k + 1);
+        right_across(crossed, work);
+        dim = crossed.left;
     }
     dim
 }

@@ -1,8 +1,6 @@
 -- The environment at the front of the work slice is the walk's, site by site.
-use mathlib.Core.Path.{◌≡◌}
-use lib.ListN.{length}
 use Rattle.environments.specs.Walk.{RightAt}
 use Rattle.environments.proofs.compute_right_env.Given as goal
 
 abbrev pub invariant-loop-k : goal.invariant-loop-k
-invariant-loop-k l = (length l.work ≡ length l.fn.work) × RightAt l.chain l.store l.site l.to l.k l.dim l.work
+invariant-loop-k l = RightAt l.chain l.store l.site l.to l.k l.dim l.work
