@@ -1,5 +1,5 @@
 -- Numbers of 108 binary digits in two words: what `square`, `quotient` and `sum` of the program do with them. Assumes nothing.
-use Rattle.std.specs.Prelude.{◌≡◌, ℕ, ◌+◌, ◌*◌, ◌%◌, ◌^◌, ◌<◌, Bool}
+use Rattle.std.specs.Prelude.{◌≡◌, ℕ, ◌+◌, ◌*◌, ◌%◌, ◌^◌, Bool}
 use Rattle.root.specs.declared.wide.Wide.{Wide}
 
 -- the number that the two words stand for
@@ -12,11 +12,6 @@ pub record Holds (n : Wide) (N : ℕ) (cut : Bool) : Type 0 where
   pub flag : n.cut ≡ cut
 
 -- ---- the square of m = a * 2 ^ 27 + b
-
-pub record Products (a b : ℕ) : Type 0 where
-  pub ab : a * b < 2 ^ 54
-  pub bb : b * b < 2 ^ 54
-  pub aa : a * a < 2 ^ 54
 
 -- the word that holds the low digits, a carry included
 abbrev pub low_word : ℕ → ℕ → ℕ

@@ -112,6 +112,7 @@ impl Radicand {
     }
 
     // Half of the root of n, rounded to the nearest, times 2^exponent units, by its digits.
+    #[tactic(auto, using(crate::proofs::Laws::NearestHalf::half_few, crate::proofs::Laws::HalfRoot::half_long, crate::proofs::Laws::HalfRoot::half_found))]
     fn half_root_by_digits(self) -> f64
         ensures { result ≡ half_root (whole self.n) self.n.cut self.exponent }
     {
@@ -121,6 +122,7 @@ impl Radicand {
     }
 
     // The same, where h + 1 or h - 1 is likely to be the half. They are tested, so h may be any number.
+    #[tactic(auto, using(crate::proofs::Laws::HalfRoot::tested, std::proofs::lemmas::Bool::Decides::nat_tests))]
     fn half_root_beside(self, h: u64) -> f64
         ensures { result ≡ half_root (whole self.n) self.n.cut self.exponent }
     {
@@ -270,6 +272,7 @@ fn norm_guess(a: Complex) -> f64 {
 
 // The root of a finite value above zero, by its bit pattern. Four times the value is c * 2^e squares of a unit, where c is
 // the significand moved up to 53 binary digits. Where e is odd it is moved up once more, so that the exponent can be halved.
+#[tactic(auto, using(crate::proofs::Laws::RootMethod::zeros_least, crate::proofs::Laws::RootMethod::hi_range, crate::proofs::Laws::RootMethod::root_found))]
 fn positive(b: u64, guess: f64) -> f64
     requires b_nonzero { 0 < b }
     requires b_bound { b < 0x7ff0_0000_0000_0000 }
@@ -292,6 +295,7 @@ fn positive(b: u64, guess: f64) -> f64
 
 // The root of x, whatever the guess at it. A zero is its own root, with its sign; of anything else below zero, and of a NaN,
 // it is a NaN.
+#[tactic(auto, using(crate::proofs::Laws::Patterns::nan_root, crate::proofs::Laws::Patterns::nan_value, crate::proofs::Laws::Patterns::zero_root, crate::proofs::Laws::Patterns::minus_zero_root, crate::proofs::Laws::Patterns::below_root, crate::proofs::Laws::Patterns::top_root, crate::proofs::Laws::Patterns::by_pattern))]
 pub fn root_with(x: f64, guess: f64) -> f64
     ensures { result ≡ root_of x }
 {
@@ -343,6 +347,7 @@ const FAR: u64 = 27;
 // The size of two finite parts, by their bit patterns without signs, the larger first. Their squares are added in units of
 // the larger one's last digit squared, or of the next where the sum has a digit more. From 27 exponents apart on the
 // smaller square does not count.
+#[tactic(auto, using(crate::proofs::Laws::Units::pattern_real, crate::proofs::Laws::NormMethod::sum_low, crate::proofs::Laws::NormMethod::longer, crate::proofs::Laws::NormMethod::near))]
 fn finite_norm(x: u64, y: u64, guess: f64) -> f64
     requires y_le_x { y ≤ x }
     requires x_bound { x < 0x7ff0_0000_0000_0000 }
@@ -365,6 +370,7 @@ fn finite_norm(x: u64, y: u64, guess: f64) -> f64
 
 // The size of a complex number, whatever the guess at it: the f64 nearest to the exact root of the sum of its parts'
 // squares, ties to even.
+#[tactic(auto, using(crate::proofs::Laws::Patterns::nan_value, crate::proofs::Laws::FromUnits::top_value, crate::proofs::Laws::Magnitude::size_infinite, crate::proofs::Laws::Magnitude::size_nan, crate::proofs::Laws::Magnitude::size_finite, crate::proofs::Laws::Magnitude::either_order))]
 pub fn norm_with(a: Complex, guess: f64) -> f64
     ensures { result ≡ norm_of a }
 {

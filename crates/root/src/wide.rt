@@ -40,6 +40,7 @@ impl Wide {
     }
 
     // The whole part of it / 4^k.
+    #[tactic(auto, using(crate::proofs::Laws::Wide::quotient_low, crate::proofs::Laws::Wide::quotient_whole, crate::proofs::Laws::Wide::quotient_left))]
     pub(crate) fn quotient(self, k: u64) -> Wide
         requires { k ≤ 26 }
         ensures { Holds result (whole self / 4 ^ k) (self.cut || nat_lt 0 (whole self % 4 ^ k)) }

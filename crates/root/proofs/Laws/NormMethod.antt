@@ -1,6 +1,6 @@
 -- Laws of `specs/NormMethod.antt`.
 use Rattle.std.specs.Prelude.{◌≡◌, ℕ, zero, suc, ◌+◌, ◌-◌, ◌*◌, ◌/◌, ◌%◌, ◌^◌, ◌<◌, ◌≤◌, Bool, false, ◌||◌, from_bits, nat_lt, refl, Float}
-use Rattle.std.proofs.Common.{sym, ap, ap₂, ◌∙◌, subst, zero-le, le_trans, le_of_eq, lt_of_le_of_lt, lt_of_lt_of_le, mul-pos, mul-le-mul, mul-le-mul_left, le-add_right, div-lt_iff_lt-mul, div-le_self, le_of_suc-le-suc, lt_of_not-le, arith, lit<, pow_pos, pow-add, pow_mono}
+use Rattle.std.proofs.Common.{sym, ap, ap₂, ◌∙◌, subst, zero-le, le_trans, le_of_eq, lt_of_le_of_lt, lt_of_lt_of_le, mul-pos, mul-le-mul, mul-le-mul_left, le-add_right, div-lt_iff_lt-mul, le_of_suc-le-suc, lt_of_not-le, arith, lit<, pow_pos, pow-add, pow_mono}
 use Rattle.std.proofs.Math.Nat.{mul-mul-mul_comm}
 use Rattle.std.specs.Float.{binary64}
 use Rattle.std.specs.Float.Ieee.{units}
@@ -20,10 +20,25 @@ use Rattle.root.specs.HalfRoot.{half_root}
 use Rattle.root.proofs.Laws.HalfRoot.{half_nearest, cut_nearest}
 use Rattle.root.proofs.Laws.NearestRootLaws.{nearest_root_lem}
 use Rattle.root.proofs.Laws.Theorems.{only_nearest}
+use Rattle.root.specs.Wide.{whole}
+use Rattle.root.specs.declared.wide.Wide.{Wide}
 use Rattle.root.specs.NormMethod.{square, scaled_sum, cut_off}
 
 pub square_below : (m : ℕ) → m < 2 ^ 53 → square m < 2 ^ 108
 square_below m h = square_lt (2 * m) (2 ^ 54) (omega arith)
+
+-- the sum has 106 digits at least, unless the larger part is subnormal
+pub sum_low : (a b k : ℕ) → 2 ^ 52 ≤ a → 2 ^ 106 ≤ scaled_sum a b k
+sum_low a b k h = let A : 2 ^ 53 ≤ 2 * a = omega arith in le_trans (mul-le-mul A A) (le-add_right (square a) (square b / 4 ^ k))
+
+-- without the digit that it has more than 108, it has 106 to 108
+pub longer : (n : Wide) → whole n < 2 ^ 109 → let j = n.hi / 2 ^ 54 in (whole n / 4 ^ j < 2 ^ 108) × (2 ^ 106 ≤ whole n → 2 ^ 106 ≤ whole n / 4 ^ j)
+longer n h = at (n.hi / 2 ^ 54) refl
+  where
+    at : (j : ℕ) → n.hi / 2 ^ 54 ≡ j → (whole n / 4 ^ j < 2 ^ 108) × (2 ^ 106 ≤ whole n → 2 ^ 106 ≤ whole n / 4 ^ j)
+    at zero q = (omega (arith, n.low), λ l. omega arith)
+    at (suc zero) q = (omega arith, λ l. omega arith)
+    at (suc (suc j)) q = absurd (omega arith)
 
 -- ---- x and y are the patterns of a * 2 ^ e and b * 2 ^ f units
 
@@ -98,18 +113,8 @@ module _ (x y a e b f : ℕ) (X : Decodes x a e) (Y : Decodes y b f) (ordered : 
       more : Bool
       more = nat_lt 0 (4 * exact % (2 ^ e * 2 ^ e)) || nat_lt 0 small
 
-  -- ---- nearer, N is the whole number, of 106 to 109 digits unless e is 0
+  -- ---- nearer, N / 4 ^ j has 108 digits at most, where j is the digit that the sum N has more than those
 
-  pub sum_low : 0 < e → 2 ^ 106 ≤ total
-  sum_low p = let A : 2 ^ 53 ≤ 2 * a = omega (arith, X.full p) in le_trans (mul-le-mul A A) (le-add_right (square a) (square b / 4 ^ distance))
-
-  pub sum_high : total < 2 ^ 109
-  sum_high = below_both (square a) (square b) (square b / 4 ^ distance) (square_below a X.few) (square_below b Y.few) (div-le_self (square b) (4 ^ distance))
-    where
-      below_both : (A B C : ℕ) → A < 2 ^ 108 → B < 2 ^ 108 → C ≤ B → A + C < 2 ^ 109
-      below_both A B C h k l = omega arith
-
-  -- N / 4 ^ j has 108 digits at most, where j is the digit that N has more than those
   pub near : (j : ℕ) → total / 4 ^ j < 2 ^ 108 → (0 < e + j → 2 ^ 106 ≤ total / 4 ^ j) → half_root (total / 4 ^ j) (cut || nat_lt 0 (total % 4 ^ j)) (e + j) ≡ nearest_root exact
   near j high low = found _ (cut_nearest exact (e + j) (total / 4 ^ j) (cut || nat_lt 0 (total % 4 ^ j)) again high low)
     where
@@ -118,18 +123,3 @@ module _ (x y a e b f : ℕ) (X : Decodes x a e) (Y : Decodes y b f) (ordered : 
         where
           larger : 2 ^ e * 2 ^ e * 4 ^ j ≡ 2 ^ (e + j) * 2 ^ (e + j)
           larger = rw (pow-add 2 e j, four_square j) (mul-mul-mul_comm (2 ^ e) (2 ^ e) (2 ^ j) (2 ^ j))
-
-  module _ (hi lo : ℕ) (words : hi * 2 ^ 54 + lo ≡ total) (L : lo < 2 ^ 54) where
-    abbrev j : ℕ
-    j = hi / 2 ^ 54
-
-    pub longer_le : j ≤ 1
-    longer_le = omega (arith, words, sum_high)
-
-    pub longer_range : (total / 4 ^ j < 2 ^ 108) × (0 < e + j → 2 ^ 106 ≤ total / 4 ^ j)
-    longer_range = at j longer_le refl
-      where
-        at : (k : ℕ) → k ≤ 1 → j ≡ k → (total / 4 ^ k < 2 ^ 108) × (0 < e + k → 2 ^ 106 ≤ total / 4 ^ k)
-        at zero h q = (omega (arith, words, L, q), λ p. omega (arith, sum_low (omega (arith, p))))
-        at (suc zero) h q = (omega (arith, sum_high), λ _. omega (arith, words, q))
-        at (suc (suc k)) h q = absurd (omega (arith, h))

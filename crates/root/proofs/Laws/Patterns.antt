@@ -1,11 +1,10 @@
 -- Laws of `specs/Patterns.antt`.
-use Rattle.std.specs.Prelude.{◌≡◌, ℕ, zero, suc, ◌+◌, ◌%◌, ◌^◌, ◌<◌, ◌≤◌, Bool, true, false, cond, not, T, ℤ, Float}
+use Rattle.std.specs.Prelude.{◌≡◌, ℕ, zero, suc, ◌+◌, ◌%◌, ◌^◌, ◌<◌, ◌≤◌, Bool, true, false, cond, T, ℤ, Float}
 use Rattle.std.proofs.Math.Path.{refl}
 use Rattle.std.proofs.Common.{sym, ap, ◌∙◌, subst, true≢false, lt_irrefl, lt_trans, not-le_of_lt, zero-mul, mod-eq_of_lt, arith, lit<}
 use Rattle.std.proofs.Math.Nat.{zero-div}
 use Rattle.std.specs.Float.{nan, inf, fin, binary64}
-use Rattle.std.specs.Float.Ieee.{up, down, fits, is_nan, ne, div, of_bits, to_bits}
-use Rattle.std.specs.Float.Ieee.Compare.{differs_from_itself, nan_differs}
+use Rattle.std.specs.Float.Ieee.{up, down, fits, is_nan, of_bits, to_bits}
 use Rattle.std.specs.Float.Ieee.Bits.{of_bits-to_bits}
 use Rattle.std.specs.Float.Ieee.Fits.{inf-fits}
 use Rattle.root.specs.Units.{in_units}
@@ -48,32 +47,20 @@ minus_zero : (e : ℤ) → to_bits binary64 (fin true zero e) ≡ 2 ^ 63
 unfolding to_bits
 minus_zero e = rw (zero-mul (up e), zero-div (down e)) refl
 
--- ---- what the tests for a NaN say
-
-pub is_nan_differs : (x : Float) → is_nan x ≡ true → ne x x ≡ true
-unfolding is_nan
-is_nan_differs nan h = nan_differs
-is_nan_differs (inf s) h = absurd (true≢false (sym h))
-is_nan_differs (fin s m e) h = absurd (true≢false (sym h))
-
-pub nan_magnitude : (x : Float) → ne x x ≡ true → 0x7FF8_0000_0000_0000 ≡ to_bits binary64 x % 2 ^ 63
-unfolding to_bits
-nan_magnitude x h = ap (λ (y : Float). to_bits binary64 y % 2 ^ 63) (sym (differs_from_itself x (subst T (sym h) tt)))
-
-pub not_nan : (x : Float) → ne x x ≡ false → T (not (is_nan x))
-unfolding is_nan
-not_nan nan h = absurd (true≢false (sym nan_differs ∙ h))
-not_nan (inf s) h = tt
-not_nan (fin s m e) h = tt
-
 -- ---- the root of x by its pattern
 
-pub nan_root : (x : Float) → ne x x ≡ true → x ≡ root_of x
-nan_root x h = let e : x ≡ nan = differs_from_itself x (subst T (sym h) tt) in e ∙ sym (ap root_of e ∙ root_nan)
+pub nan_root : (x : Float) → is_nan x ≡ true → x ≡ root_of x
+unfolding is_nan
+nan_root nan h = sym root_nan
+nan_root (inf s) h = absurd (true≢false (sym h))
+nan_root (fin s m e) h = absurd (true≢false (sym h))
 
 module _ (x : Float) (held : T (fits binary64 x)) where
+  pub by_pattern : of_bits binary64 (to_bits binary64 x) ≡ x
+  by_pattern = of_bits-to_bits binary64 x held
+
   itself : (b : ℕ) → root_of (of_bits binary64 b) ≡ of_bits binary64 b → to_bits binary64 x ≡ b → x ≡ root_of x
-  itself b r e = let v : x ≡ of_bits binary64 b = sym (of_bits-to_bits binary64 x held) ∙ ap (of_bits binary64) e in v ∙ sym r ∙ ap root_of (sym v)
+  itself b r e = let v : x ≡ of_bits binary64 b = sym by_pattern ∙ ap (of_bits binary64) e in v ∙ sym r ∙ ap root_of (sym v)
 
   pub zero_root : to_bits binary64 x ≡ 0 → x ≡ root_of x
   unfolding root_of of_bits
@@ -102,11 +89,7 @@ top_root (inf true) h l k = absurd (omega arith)
 top_root (inf false) h l k = refl
 top_root (fin s m e) h l k = absurd (not-le_of_lt (finite_magnitude s m e h) (subst (λ (b : ℕ). top ≤ b) (sym (mod-eq_of_lt k)) l))
 
--- 0.0 / 0.0, and f64::NAN, which the program returns where there is no root and no size
-pub no_root : div binary64 (of_bits binary64 0) (of_bits binary64 0) ≡ nan
-unfolding div of_bits
-no_root = refl
-
+-- f64::NAN, which the program returns where there is no root and no size
 pub nan_value : of_bits binary64 0x7FF8_0000_0000_0000 ≡ nan
 unfolding of_bits
 nan_value = refl
