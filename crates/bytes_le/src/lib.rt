@@ -19,6 +19,7 @@ pub fn u8_at(s: &[u8], at: usize) -> u8
     s[at]
 }
 
+#[tactic(auto, using(crate::proofs::Value::value_none, crate::proofs::Value::value_more))]
 pub fn u16_at(s: &[u8], at: usize) -> u16
     requires { at + 2 ≤ length s.now }
     ensures { result ≡ value (part at (at + 2) s.now) }
@@ -26,6 +27,7 @@ pub fn u16_at(s: &[u8], at: usize) -> u16
     u16::from_le_bytes([s[at], s[at + 1]])
 }
 
+#[tactic(auto, using(crate::proofs::Value::value_none, crate::proofs::Value::value_more))]
 pub fn u32_at(s: &[u8], at: usize) -> u32
     requires { at + 4 ≤ length s.now }
     ensures { result ≡ value (part at (at + 4) s.now) }
@@ -33,6 +35,7 @@ pub fn u32_at(s: &[u8], at: usize) -> u32
     u32::from_le_bytes([s[at], s[at + 1], s[at + 2], s[at + 3]])
 }
 
+#[tactic(auto, using(crate::proofs::Value::value_none, crate::proofs::Value::value_more))]
 pub fn u64_at(s: &[u8], at: usize) -> u64
     requires { at + 8 ≤ length s.now }
     ensures { result ≡ value (part at (at + 8) s.now) }

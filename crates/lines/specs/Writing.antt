@@ -1,5 +1,5 @@
 -- Writing a text byte by byte: `sets l i vs` is l with vs stored from the index i on. Laws alone.
-use Rattle.std.specs.Prelude.{◌≡◌, refl, Bool, cond, List, [], ◌∷◌, ◌++◌, ℕ, suc, ◌+◌, ◌/◌, ◌%◌, ◌≤◌, ◌<◌, ltb, Float, drop, take, set}
+use Rattle.std.specs.Prelude.{◌≡◌, refl, Bool, cond, List, [], ◌∷◌, ◌++◌, ℕ, suc, ◌+◌, ◌/◌, ◌%◌, ◌≤◌, ◌<◌, ltb, drop, take, set}
 use Rattle.std.proofs.Math.Path.{sym}
 use Rattle.std.proofs.Common.{ap, ◌∙◌, le_trans, add-zero, zero-add, add-suc, suc-add, length-append}
 use Rattle.std.proofs.Math.Bool.{true, false}
@@ -15,7 +15,7 @@ use Rattle.complex.specs.Loops.{tabulate, length_tabulate}
 use Rattle.lines.specs.declared.Detail.{Detail}
 use Rattle.lines.specs.declared.Detail.TheVariants.{Empty, Kept, Nothing, Bit}
 use Rattle.lines.specs.declared.Line.{Line}
-use Rattle.lines.specs.Text.{digit, decimal, bit_digit, hex_digit, hex_text, detail_text, line_text, line_room, written, written_length}
+use Rattle.lines.specs.Text.{digit, decimal, hex_digit, hex_text, detail_text, line_text, line_room, written, written_length}
 
 -- one text behind the other
 pub sets_append : (a b l : List ℕ) (i : ℕ) → sets (sets l i a) (i + length a) b ≡ sets l i (a ++ b)
@@ -52,19 +52,6 @@ module _ (x : ℕ) where
       at false true = omega arith
       at false false = omega arith
 
--- stored digit by digit
-module _ (l : List ℕ) (i x : ℕ) where
-  pub put_one : x < 10 → (set l i (digit x) ≡ sets l i (decimal x)) × (i + 1 ≡ i + length (decimal x))
-  put_one h = rw (decimal_one x h) (refl, refl)
-
-  pub put_two : 10 ≤ x → x < 100 → (set (set l i (digit (x / 10))) (i + 1) (digit (x % 10)) ≡ sets l i (decimal x)) × (i + 2 ≡ i + length (decimal x))
-  put_two h k = rw (decimal_two x h k) (rw add-one, refl)
-
-  pub put_three : 100 ≤ x → (set (set (set l i (digit (x / 100))) (i + 1) (digit (x / 10 % 10))) (i + 2) (digit (x % 10)) ≡ sets l i (decimal x)) × (i + 3 ≡ i + length (decimal x))
-  put_three h =
-      let e : i + 2 ≡ suc (suc i) = omega arith in
-      rw (decimal_three x h) (rw (add-one, e), refl)
-
 -- ---- hex digits
 
 pub hex_low : (x : ℕ) → x < 10 → 48 + x ≡ hex_digit x
@@ -83,36 +70,15 @@ pub tabulate_more : (k : ℕ) (f : ℕ → ℕ) → tabulate (k + 1) f ≡ tabul
 unfolding tabulate
 tabulate_more k f = rw add-one
 
--- one element more of a table
-pub sets_more : (l : List ℕ) (i k : ℕ) (f : ℕ → ℕ) → set (sets l i (tabulate k f)) (i + k) (f k) ≡ sets l i (tabulate (k + 1) f)
-sets_more l i k f = rw tabulate_more (ap (λ n. set (sets l i (tabulate k f)) (i + n) (f k)) (sym (length_tabulate k f)) ∙ sets_append (tabulate k f) (f k ∷ []) l i)
+-- no element of a table, and one more
+pub sets_none : (l : List ℕ) (i : ℕ) (f : ℕ → ℕ) → sets l i (tabulate 0 f) ≡ l
+unfolding tabulate
+sets_none l i f = refl
+
+pub sets_more : (l : List ℕ) (i k : ℕ) (f : ℕ → ℕ) → sets l i (tabulate (k + 1) f) ≡ set (sets l i (tabulate k f)) (i + k) (f k)
+sets_more l i k f = rw tabulate_more (sym (ap (λ n. set (sets l i (tabulate k f)) (i + n) (f k)) (sym (length_tabulate k f)) ∙ sets_append (tabulate k f) (f k ∷ []) l i))
 
 -- ---- details
-
--- vs written from the index i of l on leaves `after`, and r is the index behind it
-abbrev pub Wrote : List ℕ → ℕ → List ℕ → List ℕ → ℕ → Type 0
-Wrote l i vs after r = (after ≡ sets l i vs) × (r ≡ i + length vs)
-
-module _ (l : List ℕ) (i : ℕ) (after : List ℕ) (r : ℕ) where
-  behind : (v : ℕ) (vs : List ℕ) → Wrote (set l i v) (i + 1) vs after r → Wrote l i (v ∷ vs) after r
-  behind v vs h = (rw add-one at h.0, omega (arith, h.1))
-
-  pub wrote_kept : (d : Detail) (w : Float) (b : ℕ) → d ≡ Kept w → b ≡ to_bits binary64 w → Wrote (set l i 32) (i + 1) (hex_text b) after r → Wrote l i (detail_text d) after r
-  unfolding detail_text
-  wrote_kept d w b e f h = rw (e, ← f) (behind 32 (hex_text b) h)
-
-  pub wrote_nothing : (d : Detail) → d ≡ Nothing → Wrote (set l i 32) (i + 1) (hex_text 0) after r → Wrote l i (detail_text d) after r
-  unfolding detail_text
-  wrote_nothing d e h = rw e (behind 32 (hex_text 0) h)
-
-module _ (l : List ℕ) (i : ℕ) (d : Detail) where
-  pub wrote_empty : d ≡ Empty → Wrote l i (detail_text d) l i
-  unfolding detail_text
-  wrote_empty e = rw e (refl, sym (add-zero i))
-
-  pub wrote_bit : (b : Bool) (v : ℕ) → d ≡ Bit b → v ≡ bit_digit b → Wrote l i (detail_text d) (set (set l i 32) (i + 1) v) (i + 2)
-  unfolding detail_text
-  wrote_bit b v e f = rw (e, f) (rw add-one, refl)
 
 pub length_detail : (d : Detail) → length (detail_text d) ≤ 17
 unfolding detail_text
@@ -122,6 +88,10 @@ length_detail Nothing = omega (arith, length_hex 0)
 length_detail (Bit b) = omega arith
 
 -- ---- the whole line
+
+-- vs written from the index i of l on leaves `after`, and r is the index behind it
+abbrev pub Wrote : List ℕ → ℕ → List ℕ → List ℕ → ℕ → Type 0
+Wrote l i vs after r = (after ≡ sets l i vs) × (r ≡ i + length vs)
 
 chain : (l a b vs ws : List ℕ) (i r s : ℕ) → Wrote l i vs a r → Wrote a r ws b s → Wrote l i (vs ++ ws) b s
 chain l a b vs ws i r s g h = (h.0 ∙ rw (g.0, g.1) (sets_append vs ws l i), rw length-append (omega (arith, g.1, h.1)))
@@ -133,8 +103,8 @@ length_line line = simp length-append (omega (arith, length_decimal line.kind, l
 -- the kind, a space, the number, the detail and a newline, written behind each other; a, b and d are what each text leaves
 pub wrote_line : (l : List ℕ) (line : Line) (a b d : List ℕ) (r s u : ℕ) → line_room ≤ length l
     → Wrote l 0 (decimal line.kind) a r → Wrote (set a r 32) (r + 1) (decimal line.number) b s → Wrote b s (detail_text line.detail) d u
-    → (set d u 10 ≡ written line l) × (u + 1 ≡ written_length line l)
-unfolding line_text written written_length
+    → set d u 10 ≡ written line l
+unfolding line_text written
 wrote_line l line a b d r s u h f g k =
     let t1 = decimal line.kind ++ (32 ∷ []) in
     let t2 = t1 ++ decimal line.number in
@@ -143,11 +113,20 @@ wrote_line l line a b d r s u h f g k =
     let w2 = chain l (set a r 32) b t1 (decimal line.number) 0 (r + 1) s w1 g in
     let w3 = chain l b d t2 (detail_text line.detail) 0 s u w2 k in
     let w = chain l d (set d u 10) t3 (10 ∷ []) 0 u (u + 1) w3 (refl, refl) in
-    rw (le-ltb (length l) line_room h) (w.0 ∙ sets_front (line_text line) l (le_trans (length_line line) h), w.1 ∙ zero-add _)
+    rw (le-ltb (length l) line_room h) (w.0 ∙ sets_front (line_text line) l (le_trans (length_line line) h))
 
-pub no_room : (l : List ℕ) (line : Line) → length l < line_room → (l ≡ written line l) × (0 ≡ written_length line l)
-unfolding written written_length
-no_room l line h = rw (lt-ltb (length l) line_room h) (refl, refl)
+pub no_room : (l : List ℕ) (line : Line) → length l < line_room → l ≡ written line l
+unfolding written
+no_room l line h = rw (lt-ltb (length l) line_room h)
+
+-- how many bytes those are
+pub length_room : (l : List ℕ) (line : Line) → line_room ≤ length l → written_length line l ≡ length (decimal line.kind) + 1 + length (decimal line.number) + length (detail_text line.detail) + 1
+unfolding written_length line_text
+length_room l line h = rw (le-ltb (length l) line_room h) (simp length-append (omega arith))
+
+pub length_no_room : (l : List ℕ) (line : Line) → length l < line_room → written_length line l ≡ 0
+unfolding written_length
+length_no_room l line h = rw (lt-ltb (length l) line_room h)
 
 -- in a slice with room, what is written is within it, and stands at its front
 pub written_front : (l : List ℕ) (line : Line) → line_room ≤ length l

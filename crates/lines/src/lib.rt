@@ -38,7 +38,7 @@ impl Line {
 
 // x in decimal from the index `at` on. The index behind it is returned, here and below. By hand, here and below: `write!`
 // promises its text only where it answers Ok, and nothing promises that it does.
-#[tactic(auto, using(crate::specs::Writing::put_one, crate::specs::Writing::put_two, crate::specs::Writing::put_three, crate::specs::Writing::decimal_one, crate::specs::Writing::decimal_two, crate::specs::Writing::decimal_three))]
+#[tactic(auto, using(crate::specs::Writing::decimal_one, crate::specs::Writing::decimal_two, crate::specs::Writing::decimal_three))]
 fn put_decimal(out: &mut [u8], at: usize, x: u8) -> usize
     requires { at + 3 ≤ length out.old }
     ensures out_after { out.new ≡ sets out.old at (decimal x) }
@@ -72,6 +72,7 @@ fn hex_digit(x: u64) -> u8
 }
 
 // The 16 hex digits of x, highest first.
+#[tactic(auto, using(crate::specs::Writing::sets_none, crate::specs::Writing::sets_more, crate::specs::Writing::length_hex), unfolding(crate::specs::Text::hex_text))]
 fn put_hex(out: &mut [u8], at: usize, x: u64) -> usize
     requires { at + 16 ≤ length out.old }
     ensures out_after { out.new ≡ sets out.old at (hex_text x) }
@@ -117,7 +118,7 @@ fn put_detail(out: &mut [u8], at: usize, detail: Detail) -> usize
 
 // The line from the slice's start, ended by a newline, and its length. A slice that is shorter than the longest line
 // is left as it was, and the answer is 0.
-#[tactic(auto, using(crate::specs::Writing::length_decimal, crate::specs::Writing::length_detail, crate::specs::Writing::no_room, crate::specs::Writing::wrote_line))]
+#[tactic(auto, using(crate::specs::Writing::length_decimal, crate::specs::Writing::length_detail, crate::specs::Writing::no_room, crate::specs::Writing::wrote_line, crate::specs::Writing::length_room, crate::specs::Writing::length_no_room, std::proofs::lemmas::Grind::common_steps))]
 pub fn write_line(out: &mut [u8], line: Line) -> usize
     ensures out_after { out.new ≡ written line out.old }
     ensures value { result ≡ written_length line out.old }
