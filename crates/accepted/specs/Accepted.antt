@@ -72,7 +72,7 @@ lent s work h long room e =
       fits = fits;
       whole = whole;
       ready = record { sound = h; store_room_lem = slices.amplitudes; work_room_lem = omega (arith, whole) };
-      walkable = record { sound_record = facts_sound s.chain h; store_room_lem = slices.amplitudes; work_room_lem = omega (arith, whole) };
+      walkable = record { housed = record { sound = h; store_room_lem = slices.amplitudes }; work_room_lem = omega (arith, whole) };
       again = λ used l. simp (length-append, length-drop) (omega (arith, l, whole, fits));
       clear = λ used zeros l z.
           let n : length used ≡ room = l ∙ whole in
@@ -95,6 +95,9 @@ module _ (c : Chain) (store work : List Float) where
 
     pub lendable_ready : (room : ℕ) → room ≡ work_room c.max_bond_dim → Ready c store (take room work)
     lendable_ready room l = (lent (held c store) work h.sound h.long room l).ready
+
+    pub lendable_walkable : (room : ℕ) → room ≡ work_room c.max_bond_dim → Walkable c store (take room work)
+    lendable_walkable room l = (lent (held c store) work h.sound h.long room l).walkable
 
   module _ (q0 q1 : ℕ) (gate : List (List Complex)) (e : gate_refusal (held c store) work q0 q1 gate ≡ 0) where
     g : AcceptedGate (held c store) work q0 q1 gate

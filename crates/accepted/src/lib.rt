@@ -116,7 +116,7 @@ pub fn run_reset(chain: &mut Chain, store: &mut [f64], work: &mut [f64], q: usiz
 // ---- environments: the record and the store are only read. Two functions, as each walks the other way, by another call
 
 // The left environment of a site, the sites from `from` on contracted, into the result slice.
-#[tactic(auto, using(crate::specs::Accepted::walk_lendable, crate::specs::Accepted::lendable_cap, crate::specs::Accepted::lendable_fits))]
+#[tactic(auto, using(crate::specs::Accepted::walk_lendable, crate::specs::Accepted::lendable_cap, crate::specs::Accepted::lendable_fits, crate::specs::Accepted::lendable_walkable))]
 pub fn run_left_environment(
     chain: &Chain,
     store: &[f64],
@@ -136,7 +136,7 @@ pub fn run_left_environment(
 }
 
 // The right environment of a site, the sites from `to` back to the next one contracted, into the result slice.
-#[tactic(auto, using(crate::specs::Accepted::walk_lendable, crate::specs::Accepted::lendable_cap, crate::specs::Accepted::lendable_fits))]
+#[tactic(auto, using(crate::specs::Accepted::walk_lendable, crate::specs::Accepted::lendable_cap, crate::specs::Accepted::lendable_fits, crate::specs::Accepted::lendable_walkable))]
 pub fn run_right_environment(
     chain: &Chain,
     store: &[f64],
