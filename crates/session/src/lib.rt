@@ -27,6 +27,7 @@ pub struct Stepped {
 }
 
 // Before any start: the chain is the all-zero record, as a refused start hands it back.
+#[tactic(auto, unfolding(model::specs::Calls::start_call, model::specs::Sound::settings_fit))]
 pub fn new_session() -> Session
     ensures { result ≡ new_session }
 {
@@ -93,7 +94,7 @@ fn left_by(kind: u8, started: bool, chain: Chain, said: Result<Detail, u8>) -> S
 }
 
 // A refused start counts for nothing.
-#[tactic(auto, using(crate::proofs::Laws::Steps::opened), unfolding(crate::specs::Session::start_step))]
+#[tactic(auto, unfolding(crate::specs::Session::start_step))]
 fn start_record(store: &mut [f64], n: u8, d: u8, exponent: u8, epsilon: f64, clamp: f64) -> Stepped
     ensures { left result.session result.line store.new ≡ start_step store.old n d exponent epsilon clamp }
 {
@@ -103,7 +104,7 @@ fn start_record(store: &mut [f64], n: u8, d: u8, exponent: u8, epsilon: f64, cla
 }
 
 // A record that may come now.
-#[tactic(auto, using(crate::proofs::Laws::Steps::answered), unfolding(crate::specs::Session::kind_step, crate::specs::Session::gate_step, crate::specs::Session::named_gate_step, crate::specs::Session::projection_step, crate::specs::Session::measure_step, crate::specs::Session::reset_step))]
+#[tactic(auto, unfolding(crate::specs::Session::kind_step, crate::specs::Session::gate_step, crate::specs::Session::named_gate_step, crate::specs::Session::projection_step, crate::specs::Session::measure_step, crate::specs::Session::reset_step))]
 fn kind_record(session: Session, store: &mut [f64], work: &mut [f64], read: Record) -> Stepped
     ensures { left result.session result.line store.new work.new ≡ kind_step session store.old work.old read }
 {
@@ -164,7 +165,7 @@ fn in_turn(started: bool, read: Record) -> bool
 }
 
 // What stands of one record, from its length on; it may be cut off.
-#[tactic(auto, using(crate::proofs::Laws::Steps::unread, crate::proofs::Laws::Steps::out_of_turn, crate::proofs::Laws::Steps::stepped))]
+#[tactic(auto, unfolding(crate::specs::Session::step_of))]
 pub fn step(session: Session, store: &mut [f64], work: &mut [f64], bytes: &[u8]) -> Stepped
     ensures { left result.session result.line store.new work.new ≡ step_of session store.old work.old bytes.now }
 {

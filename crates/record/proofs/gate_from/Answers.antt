@@ -4,4 +4,4 @@ use Rattle.record.proofs.gate_from.Goals as goal
 
 pub returns : goal.returns
 unfolding gate_of gate_in
-returns c = rw (c.row_from.ensures, c.row_from-2.ensures, c.row_from-3.ensures, c.row_from-4.ensures)
+returns c = cc
