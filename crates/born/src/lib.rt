@@ -96,8 +96,8 @@ fn keep(slot: &mut [f64], bl: usize, br: usize, from: bool, to: bool, w: f64)
 }
 
 // A site projected on outcome o, whose weight is w. TO_ZERO: the site reset from that outcome, so that
-// its amplitudes go to bit 0. The bonds stay parameters: a struct with them and the slot would be made
-// for one call, and no fact about them is kept between calls.
+// its amplitudes go to bit 0. The bonds stay parameters here and above: the slot is lent and written, so
+// that a struct could carry no more of them than the bound of two numbers.
 pub fn collapse<const TO_ZERO: bool>(slot: &mut [f64], bl: usize, br: usize, o: bool, w: f64)
     requires br_bound { bl * (2 * br) ≤ count slot.old }
     requires bl_bound { (bl ≤ 128) × (br ≤ 128) }

@@ -1,6 +1,7 @@
 // The public calls on a chain of qubits. Each takes the chain record by value and hands it back beside its answer; the
 // amplitudes lie in a lent store, and a lent work slice is used meanwhile. Every call is defined on all inputs: what is
-// refused, under which number, and what is left, stands in `model`, specs/Calls.antt.
+// refused, under which number, and what is left, stands in `model`, specs/Calls.antt. Record, store and work slice come in by
+// themselves, as the buyer asks: nothing is known of the three before the tests.
 #![tactic(auto)]
 
 ghost use Rattle.std.specs.Prelude.{◌≡◌};
@@ -175,7 +176,7 @@ pub fn reset(chain: Chain, store: &mut [f64], work: &mut [f64], q: usize, draw: 
     After { answer, chain }
 }
 
-// ---- environments: the record and the store are only read
+// ---- environments: the record and the store are only read. Two calls, named by the buyer, for the walks from either end
 
 // The left environment of a site, the sites from `from` on contracted, into the result slice.
 pub fn left_environment(

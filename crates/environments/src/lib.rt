@@ -42,6 +42,8 @@ fn site_at<'a>(chain: &Chain, store: &'a [f64], k: usize) -> Site<'a>
     }
 }
 
+// Left and right are two functions: the walks go opposite ways, from other ends, by steps whose sums differ (walks).
+
 // The left environment of a site, the sites from `from` on contracted: its dimension.
 #[tactic(auto, using(crate::specs::Walk::left_start, crate::specs::Walk::left_turn, crate::specs::Walk::left_done))]
 pub fn compute_left_env(

@@ -1,2 +1,2 @@
--- What the functions below `contract` and `contract_adjoint` compute. The contracts of these two cite the model alone.
+-- What the functions below `contract` compute. Its own contract cites the model alone.
 pub mod Blocks

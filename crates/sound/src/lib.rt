@@ -1,5 +1,6 @@
 // Whether a chain record is sound, and its parts that are asked by themselves: the settings that
-// start takes, and a share, as a draw is.
+// start takes, and a share, as a draw is. A test takes one list of the record and the chain's length, and not the record:
+// the lists of a kind are tested by one function, the maps each way round.
 #![tactic(auto)]
 
 ghost use Rattle.std.specs.Prelude.{◌≡◌, ◌&&◌, ◌||◌, ◌+◌, ◌-◌, ◌≤◌, leb, ltb, eqb, get_or};
