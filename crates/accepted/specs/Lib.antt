@@ -1,3 +1,2 @@
--- What an accepted call has, and that what its run leaves is what the model defines.
+-- What an accepted call has, and what its run leaves of the slices.
 pub mod Accepted
-pub mod Ends

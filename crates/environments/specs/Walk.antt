@@ -12,14 +12,10 @@ use Rattle.walks.specs.Steps.{left_env_lem, right_env_lem}
 
 -- ---- room
 
--- a sound record and its store
-pub record Housed (c : Chain) (store : List Float) : Type 0 where
+-- a sound record, its store, and room to work
+pub record Walkable (c : Chain) (store work : List Float) : Type 0 where
   pub sound : Sound c
   pub store_room_lem : store_room c.num_qubits c.max_bond_dim ≤ length store
-
--- and room to work
-pub record Walkable (c : Chain) (store work : List Float) : Type 0 where
-  pub housed : Housed c store
   pub work_room_lem : work_room c.max_bond_dim ≤ length work
 
 -- ---- the walks, step by step. What holds before a step, `LeftAt` and `RightAt`, stays closed in the proofs of the loops, which the laws below carry it through

@@ -6,9 +6,10 @@
 
 ghost use Rattle.std.specs.Prelude.{◌≡◌, ◌++◌, ◌+◌, ◌*◌, ◌<◌, ◌≤◌, length, take, drop};
 ghost use Rattle.model.specs.Chain.{bond_left, bond_right};
-ghost use Rattle.model.specs.Slots.{held, slot_of, slot_room};
+ghost use Rattle.model.specs.Slots.{held, slot_of, slot_room, store_room};
 ghost use Rattle.model.specs.Environment.{identity_env, left_env, right_env};
-ghost use Rattle.environments.specs.Walk.{Housed, Walkable};
+ghost use Rattle.model.specs.Statements.Soundness.{Sound};
+ghost use Rattle.environments.specs.Walk.{Walkable};
 
 use model::Chain;
 use walks::{Site, identity, left_across, right_across};
@@ -24,7 +25,8 @@ fn identity_at_front(work: &mut [f64], dim: usize)
 
 // Site k with its bonds.
 fn site_at<'a>(chain: &Chain, store: &'a [f64], k: usize) -> Site<'a>
-    requires housed { Housed chain.now store.now }
+    requires sound { Sound chain.now }
+    requires store_room_lem { store_room chain.now.num_qubits chain.now.max_bond_dim ≤ length store.now }
     requires k_bound { k < chain.now.num_qubits }
     ensures numbers { result.numbers.now ≡ slot_of chain.now.max_bond_dim k store.now }
     ensures bonds { (result.left ≡ bond_left chain.now k) × (result.right ≡ bond_right chain.now k) }
@@ -41,8 +43,6 @@ fn site_at<'a>(chain: &Chain, store: &'a [f64], k: usize) -> Site<'a>
         right,
     }
 }
-
-// Left and right are two functions: the walks go opposite ways, from other ends, by steps whose sums differ (walks).
 
 // The left environment of a site, the sites from `from` on contracted: its dimension.
 #[tactic(auto, using(crate::specs::Walk::left_start, crate::specs::Walk::left_turn, crate::specs::Walk::left_done))]

@@ -1,10 +1,7 @@
--- What the call handed back of the chain and the store, under their names, and the front of the work slice, filled with +0 after it.
-use Rattle.std.proofs.Common.{sym}
-use Rattle.accepted.specs.Ends.{gate_done}
+use native.Mathlib.Omega.{arith}
+use Rattle.std.proofs.lemmas.Bool.Decides.{nat_tests}
+use Rattle.accepted.specs.Accepted.{sound_told, ready_part}
 use Rattle.accepted.proofs.run_gate.Goals as goal
 
-pub returns : goal.returns
-returns c =
-    let r = c.apply_two_qubit_gate-out in
-    let p = r.ensures.place in
-    gate_done _ _ _ _ c.work_room-room.ensures r.new.mps _ _ _ _ (c.chain-1.given.1 (sym p.chain_lent)) (c.store-1.given.1.1 (sym p.store_lent)) c.work-1.given.1 (c.fill.ensures.after (λ y e. e)) _ _ _ _ c.requires r.ensures.value
+pub invariant_of-mps : goal.invariant_of-mps
+invariant_of-mps c = record { ready = grind (arith, nat_tests, sound_told, ready_part) }
