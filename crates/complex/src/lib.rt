@@ -6,7 +6,7 @@ ghost use Rattle.std.specs.Prelude.{◌≡◌, ◌<◌};
 ghost use Rattle.complex.specs.Complex.{add_c, sub_c, neg_c, conj_c, mul_c, norm_sqr, scale_c, unscale_c, is_zero, real};
 ghost use Rattle.complex.specs.Numbers.{count, at, store};
 
-use std::ops::{Add, Mul, Neg, Sub};
+use std::ops::{Add, AddAssign, Mul, Neg, Sub};
 
 #[derive(Clone, Copy)]
 pub struct Complex {
@@ -35,6 +35,16 @@ impl Add for Complex {
             re: self.re + b.re,
             im: self.im + b.im,
         }
+    }
+}
+
+impl AddAssign for Complex {
+    ghost add_assign_gives = { λ a b z. z ≡ add_c a b };
+
+    #[tactic(auto, unfolding(crate::specs::Complex::add_c))]
+    fn add_assign(&mut self, b: Complex) {
+        self.re += b.re;
+        self.im += b.im;
     }
 }
 

@@ -58,7 +58,7 @@ fn right_sum(
 {
     let mut acc = Complex::ZERO;
     for d in 0..n {
-        acc = acc + complex_at(w, from + (row + d)) * complex_at(next, d * step + c);
+        acc += complex_at(w, from + (row + d)) * complex_at(next, d * step + c);
     }
     acc
 }
@@ -89,7 +89,7 @@ fn left_sum(prev: &[f64], line: usize, w: &[f64], from: usize, row: usize, n: us
 {
     let mut acc = Complex::ZERO;
     for d in 0..n {
-        acc = acc + complex_at(prev, line + d) * complex_at(w, from + (row + d)).conj();
+        acc += complex_at(prev, line + d) * complex_at(w, from + (row + d)).conj();
     }
     acc
 }

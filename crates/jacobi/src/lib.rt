@@ -28,7 +28,7 @@ fn gram(w: &[f64], high: usize, p: usize, q: usize) -> Gram
         let y = complex_at(w, q * high + r);
         pp += x.norm_sqr();
         qq += y.norm_sqr();
-        pq = pq + x.conj() * y;
+        pq += x.conj() * y;
     }
     Gram { pp, qq, pq }
 }

@@ -244,7 +244,7 @@ fn right_inner(env: &[f64], site: Site, r: usize, b1: usize) -> Complex
     let mut acc = Complex::ZERO;
     for b in 0..br {
         let x = complex_at(site.numbers, r * br + b);
-        acc = acc + x * complex_at(env, b * br + b1);
+        acc += x * complex_at(env, b * br + b1);
     }
     acc
 }
@@ -258,7 +258,7 @@ fn right_many(front: &[f64], site: Site, mid: usize, a: usize, a1: usize) -> Com
     let mut acc = Complex::ZERO;
     for c in 0..wide {
         let x = complex_at(front, mid + (a * wide + c));
-        acc = acc + x * complex_at(site.numbers, a1 * wide + c).conj();
+        acc += x * complex_at(site.numbers, a1 * wide + c).conj();
     }
     acc
 }
