@@ -79,14 +79,14 @@ fn hex_digit(x: u64) -> u8
 }
 
 // The 16 hex digits of x, highest first.
-#[tactic(auto, using(crate::specs::Writing::sets_none, crate::specs::Writing::sets_more, crate::specs::Writing::length_hex), unfolding(crate::specs::Text::hex_text))]
+#[tactic(auto, using(crate::specs::Writing::tabulate_none, crate::specs::Writing::tabulate_more, crate::specs::Writing::take_set, crate::specs::Writing::hex_put, crate::specs::Writing::length_hex), unfolding(crate::specs::Text::hex_text))]
 fn put_hex(out: &mut [u8], at: usize, x: u64) -> usize
     requires { at + 16 ≤ length out.old }
     ensures out_after { out.new ≡ sets out.old at (hex_text x) }
     ensures value { result ≡ at + length (hex_text x) }
 {
-    for k in 0..16 {
-        out[at + k] = hex_digit((x >> (60 - 4 * k)) % 16);
+    for (k, digit) in out[at..at + 16].iter_mut().enumerate() {
+        *digit = hex_digit((x >> (60 - 4 * k)) % 16);
     }
     at + 16
 }
