@@ -52,7 +52,8 @@ pub fn u64_at(s: &[u8], at: usize) -> u64
     ])
 }
 
-// ---- an f64 by its bits
+// ---- an f64 by its bits. Names for std's functions, which promise the same: that all NaN patterns are one NaN is promised
+// here by one crate for those that read and print numbers
 
 // The f64 of a pattern.
 pub fn from_bits(bits: u64) -> f64

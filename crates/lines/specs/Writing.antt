@@ -1,7 +1,7 @@
 -- Writing a text byte by byte: `sets l i vs` is l with vs stored from the index i on. Laws alone.
-use Rattle.std.specs.Prelude.{◌≡◌, refl, Bool, cond, List, [], ◌∷◌, ◌++◌, ℕ, suc, ◌+◌, ◌/◌, ◌%◌, ◌≤◌, ◌<◌, ltb, drop, take, set}
+use Rattle.std.specs.Prelude.{◌≡◌, refl, Bool, cond, List, [], ◌∷◌, ◌++◌, ℕ, suc, ◌+◌, ◌-◌, ◌/◌, ◌%◌, ◌≤◌, ◌<◌, ltb, drop, take, set}
 use Rattle.std.proofs.Math.Path.{sym}
-use Rattle.std.proofs.Common.{ap, ◌∙◌, le_trans, add-zero, zero-add, add-suc, suc-add, length-append}
+use Rattle.std.proofs.Common.{ap, ◌∙◌, append_assoc, le_trans, take_all, add-zero, zero-add, add-suc, suc-add, length-append}
 use Rattle.std.proofs.Math.Bool.{true, false}
 use Rattle.std.proofs.Math.Numerals.{add-one}
 use native.Mathlib.Omega.{arith}
@@ -9,13 +9,14 @@ use borrow.Author.Tests.{lt-ltb, le-ltb}
 use Rattle.std.specs.Float.{binary64}
 use Rattle.std.specs.Float.Ieee.{to_bits}
 use Rattle.std.proofs.Math.ListN.{length}
-use Rattle.std.proofs.Math.Seq.{take-append_seam}
+use Rattle.std.proofs.Math.Seq.{take-append_seam, take-suc-set, drop-drop}
 use Rattle.std.proofs.lemmas.List.Edits.{sets, sets-eq}
 use Rattle.complex.specs.Loops.{tabulate, length_tabulate}
+use Rattle.complex.specs.Parts.{part, put, length_part}
 use Rattle.lines.specs.declared.Detail.{Detail}
 use Rattle.lines.specs.declared.Detail.TheVariants.{Empty, Kept, Nothing, Bit}
 use Rattle.lines.specs.declared.Line.{Line}
-use Rattle.lines.specs.Text.{digit, decimal, hex_digit, hex_text, detail_text, line_text, line_room, written, written_length}
+use Rattle.lines.specs.Text.{digit, decimal, hex_digit, hex_at, hex_text, detail_text, line_text, line_room, written, written_length}
 
 -- one text behind the other
 pub sets_append : (a b l : List ℕ) (i : ℕ) → sets (sets l i a) (i + length a) b ≡ sets l i (a ++ b)
@@ -70,13 +71,27 @@ pub tabulate_more : (k : ℕ) (f : ℕ → ℕ) → tabulate (k + 1) f ≡ tabul
 unfolding tabulate
 tabulate_more k f = rw add-one
 
--- no element of a table, and one more
-pub sets_none : (l : List ℕ) (i : ℕ) (f : ℕ → ℕ) → sets l i (tabulate 0 f) ≡ l
+pub tabulate_none : (f : ℕ → ℕ) → tabulate 0 f ≡ []
 unfolding tabulate
-sets_none l i f = refl
+tabulate_none f = refl
 
-pub sets_more : (l : List ℕ) (i k : ℕ) (f : ℕ → ℕ) → sets l i (tabulate (k + 1) f) ≡ set (sets l i (tabulate k f)) (i + k) (f k)
-sets_more l i k f = rw tabulate_more (sym (ap (λ n. set (sets l i (tabulate k f)) (i + n) (f k)) (sym (length_tabulate k f)) ∙ sets_append (tabulate k f) (f k ∷ []) l i))
+-- a list written from its front, one element more
+pub take_set : (k : ℕ) (l : List ℕ) (v : ℕ) → k < length l → take (k + 1) (set l k v) ≡ take k l ++ (v ∷ [])
+take_set k l v h = rw (add-one, take-suc-set)
+
+-- 16 digits put in their part of a text, however many turns k wrote them
+pub hex_put : (l digits : List ℕ) (i k x : ℕ) → i + 16 ≤ length l → length digits ≡ length (part i (i + 16) l) → length (part i (i + 16) l) ≤ k → take k digits ≡ tabulate k (hex_at x)
+    → put i (i + 16) l digits ≡ sets l i (hex_text x)
+unfolding hex_text
+hex_put l digits i k x h n f e =
+    let m : length (part i (i + 16) l) ≡ 16 = length_part i (i + 16) l (omega arith) h ∙ omega arith in
+    let w : digits ≡ tabulate k (hex_at x) = sym (take_all k digits (omega (arith, n, f))) ∙ e in
+    let z : k ≡ 16 = omega (arith, length_tabulate k (hex_at x), ap length w, n, m) in
+    let behind : i + (i + 16 - i) ≡ i + length (hex_text x) = omega (arith, length_hex x) in
+    ap (λ ys. take i l ++ (ys ++ drop (i + 16 - i) (drop i l))) (w ∙ ap (λ (j : ℕ). tabulate j (hex_at x)) z)
+    ∙ ap (λ zs. take i l ++ (hex_text x ++ zs)) (drop-drop (i + 16 - i) i l ∙ ap (λ j. drop j l) behind)
+    ∙ sym (append_assoc (take i l) (hex_text x) (drop (i + length (hex_text x)) l))
+    ∙ sym (sets-eq (hex_text x) l i (omega (arith, length_hex x)))
 
 -- ---- details
 

@@ -1,7 +1,7 @@
 // The line that is printed for a run record: its kind, the refusal number or 0, and what an accepted call answered.
 #![tactic(auto)]
 
-ghost use Rattle.std.specs.Prelude.{◌≡◌, ◌+◌, ◌≤◌, ◌<◌, length, OnOk};
+ghost use Rattle.std.specs.Prelude.{◌≡◌, ◌+◌, ◌≤◌, ◌<◌, eqb, length, OnOk};
 ghost use Rattle.std.specs.Io.KnownBytes.{Appends};
 ghost use Rattle.std.proofs.lemmas.List.Edits.{sets};
 ghost use Rattle.lines.specs.Text.{decimal, bit_digit, hex_digit, hex_text, detail_text, line_text, written, written_length};
@@ -34,6 +34,13 @@ impl Line {
         number: 8,
         detail: Detail::Empty,
     };
+
+    // Whether reading stops at this line: STOP is the one of kind 0.
+    pub fn stops(self) -> bool
+        ensures { result ≡ eqb self.kind 0 }
+    {
+        self.kind == 0
+    }
 }
 
 // x in decimal from the index `at` on. The index behind it is returned, here and below. By hand, here and below: `write!`
@@ -72,14 +79,14 @@ fn hex_digit(x: u64) -> u8
 }
 
 // The 16 hex digits of x, highest first.
-#[tactic(auto, using(crate::specs::Writing::sets_none, crate::specs::Writing::sets_more, crate::specs::Writing::length_hex), unfolding(crate::specs::Text::hex_text))]
+#[tactic(auto, using(crate::specs::Writing::tabulate_none, crate::specs::Writing::tabulate_more, crate::specs::Writing::take_set, crate::specs::Writing::hex_put, crate::specs::Writing::length_hex), unfolding(crate::specs::Text::hex_text))]
 fn put_hex(out: &mut [u8], at: usize, x: u64) -> usize
     requires { at + 16 ≤ length out.old }
     ensures out_after { out.new ≡ sets out.old at (hex_text x) }
     ensures value { result ≡ at + length (hex_text x) }
 {
-    for k in 0..16 {
-        out[at + k] = hex_digit((x >> (60 - 4 * k)) % 16);
+    for (k, digit) in out[at..at + 16].iter_mut().enumerate() {
+        *digit = hex_digit((x >> (60 - 4 * k)) % 16);
     }
     at + 16
 }
@@ -116,8 +123,8 @@ fn put_detail(out: &mut [u8], at: usize, detail: Detail) -> usize
     }
 }
 
-// The line from the slice's start, ended by a newline, and its length. A slice that is shorter than the longest line
-// is left as it was, and the answer is 0.
+// The line from the slice's start, ended by a newline, and how many bytes were written: a count, and so no Option. A slice
+// that is shorter than the longest line is left as it was, and 0 bytes were written.
 #[tactic(auto, using(crate::specs::Writing::length_decimal, crate::specs::Writing::length_detail, crate::specs::Writing::no_room, crate::specs::Writing::wrote_line, crate::specs::Writing::length_room, crate::specs::Writing::length_no_room, std::proofs::lemmas::Grind::common_steps))]
 pub fn write_line(out: &mut [u8], line: Line) -> usize
     ensures out_after { out.new ≡ written line out.old }

@@ -66,6 +66,10 @@ kind_of_record (a.Reset qubit draw) = 6
 
 -- ---- laws
 
+-- what is neither 0 nor 1 names Cz
+pub other_code : (code : ℕ) → (code ≡ 0 → ⊥) → (code ≡ 1 → ⊥) → Cz ≡ name_of code
+other_code code a b = rw (ne_eqb code 0 a, ne_eqb code 1 b)
+
 -- bytes of what is no kind hold no record
 pub no_fields : (k : ℕ) (bytes : List ℕ) → NoKind k → None ≡ record_in k bytes
 unfolding record_in

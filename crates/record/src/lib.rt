@@ -51,8 +51,8 @@ pub enum Record {
 
 // ---- lengths
 
-// How many bytes a record's body has, by its kind; 0 for what is no kind. A number and no Option, as the table of lengths in
-// docs/RUN-RECORD.md has it: a caller only adds to it or compares it.
+// How many bytes a record's body has, by its kind; 0 for what is no kind. A number and no Option, as specs/Layout.antt defines
+// it: a caller only adds to it or compares it. The kind is the number that the bytes hold.
 #[tactic(auto, using(crate::specs::Layout::no_layout), unfolding(crate::specs::Layout::body_size))]
 pub fn body_size(kind: u16) -> usize
     ensures { result ≡ body_size kind }
@@ -125,7 +125,8 @@ fn gate_from(bytes: &[u8]) -> [[Complex; 4]; 4]
     ]
 }
 
-// The gate of the gate record that begins the bytes; all +0 where they are too few for one.
+// The gate of the gate record that begins the bytes; all +0 where they are too few for one. No Option: its callers hand it
+// whole records, and what is promised is the definition's value on all bytes.
 #[tactic(auto, using(crate::specs::GateBytes::gate_short, crate::specs::GateBytes::gate_there), unfolding(gates::specs::Gate::gate_of))]
 pub fn read_gate(bytes: &[u8]) -> [[Complex; 4]; 4]
     ensures { result ≡ gate_read bytes.now }
@@ -138,7 +139,7 @@ pub fn read_gate(bytes: &[u8]) -> [[Complex; 4]; 4]
 
 // ---- reading
 
-// The gate of a code, if it is one.
+// The gate of a code, if it is one. The bytes hold a number, and here it becomes an enum.
 #[tactic(auto, unfolding(crate::specs::Fields::named_gate))]
 fn named_gate(code: u8) -> Option<NamedGate>
     ensures { result ≡ named_gate code }
@@ -159,7 +160,8 @@ fn bit_in(byte: u8) -> Option<bool>
     if byte <= 1 { Some(byte == 1) } else { None }
 }
 
-// The record of this kind that begins the bytes, if its code or bit is one.
+// The record of this kind that begins the bytes, if its code or bit is one. The bytes hold the kind as a number, and here it
+// becomes an enum.
 #[tactic(auto, unfolding(bytes_le::specs::Value::value, crate::specs::Layout::body_size, crate::specs::Layout::field_bytes, crate::specs::Fields::record_in), using(crate::specs::Fields::no_fields, crate::specs::GateBytes::gate_there))]
 fn record_in(bytes: &[u8], kind: u16) -> Option<Record>
     requires { 4 + body_size kind ≤ length bytes.now }
@@ -200,7 +202,7 @@ fn record_in(bytes: &[u8], kind: u16) -> Option<Record>
     }
 }
 
-// The record that begins the bytes; they may go on past it. What does not read is refused by 8.
+// The record that begins the bytes; they may go on past it. What does not read answers none, which a run refuses by 8.
 #[tactic(auto, using(crate::specs::Layout::body_size_small, crate::specs::Reading::short, crate::specs::Reading::wrong_length, crate::specs::Reading::cut_off, crate::specs::Reading::taken))]
 pub fn read_record(bytes: &[u8]) -> Option<Record>
     ensures { result ≡ read_of bytes.now }
