@@ -36,12 +36,11 @@ pub record Storable (k : ℕ) (c : Chain) (w : List Float) (r : Cut) : Type 0 wh
   pub least : 1 ≤ r.kept.chi
   pub most : r.kept.chi ≤ c.max_bond_dim
 
--- r is the cut of the pair k, k + 1 with the gate on it, none of its values a NaN, and w begins with it
+-- r is the cut of the pair k, k + 1 with the gate on it, none of its values a NaN, and w begins with it. That it can be stored is another fact, which no law below asks
 pub record CutOf (gate : List (List Complex)) (k : ℕ) (s : State) (w : List Float) (r : Cut) : Type 0 where
   pub whole : standing r.pair.shape w r.pair.order ≡ pair_of gate k s
   pub number : nan_in (pair_of gate k s) ≡ false
   pub kept : KeptOf s.chain.svd_epsilon s.chain.max_bond_dim (values (pair_of gate k s)) r.kept
-  pub storable : Storable k s.chain w r
 
 -- the state after it, with its weight on one side and the centre `at`
 abbrev pub stored_by : WeightSide → ℕ → List Float → Cut → Option ℕ → State → State

@@ -19,7 +19,7 @@ ghost use Rattle.cuts.specs.Attempts.{CutOf, Storable, stored_by, prepared_by};
 use complex::Complex;
 use cutting::{Decomposed, Kept, decompose, kept_values, store_left, store_right};
 use model::{Applied, Bonds, Chain, WeightSide};
-use moves::{Mps, pair_bonds, pair_slots};
+use moves::{Mps, pair_bonds, pair_slots, set_bond};
 use pair::Neighbours;
 
 // ---- the tests before a cut
@@ -88,6 +88,7 @@ fn cut_pair(mps: &mut Mps, gate: [[Complex; 4]; 4], k: usize) -> Result<Cut, u8>
     ensures unchanged { state mps.new ≡ state mps.old }
     ensures nan { IfErr result (λ n. (n ≡ 7) × (nan_in (pair_of gate k (state mps.new)) ≡ true)) }
     ensures cut { IfOk result (CutOf gate k (state mps.new) mps.new.work.now) }
+    ensures storable { IfOk result (Storable k mps.new.chain.now mps.new.work.now) }
     ensures place { Same mps.old mps.new }
 {
     let pair = decompose_pair(mps, gate, k).ok_or(7)?;
@@ -97,6 +98,7 @@ fn cut_pair(mps: &mut Mps, gate: [[Complex; 4]; 4], k: usize) -> Result<Cut, u8>
 }
 
 // The two sites of the decomposition. The bonds are those after the cut: the one between the sites is how many values are kept.
+// `Pair` and `Stands` are required: the slices are lent, and what stands in them changes between the calls, so that no value carries the fact.
 fn store_pair(
     store: &mut [f64],
     work: &[f64],
@@ -130,8 +132,7 @@ fn record_cut(chain: &mut Chain, k: usize, kept: Kept)
     requires { (k < 63) × (kept.chi ≤ 128) }
     ensures { chain.new ≡ recorded_cut chain.old k kept.chi (shares_of kept.share) chain.old.center }
 {
-    chain.bond_left[k + 1] = kept.chi as u8;
-    chain.bond_right[k] = kept.chi as u8;
+    set_bond(chain, k, kept.chi);
     chain.bond_high_water = chain.bond_high_water.max(kept.chi);
     chain.truncation_discarded = add_share(chain.truncation_discarded, kept.share);
     chain.bond_discarded[k] = add_share(chain.bond_discarded[k], kept.share);

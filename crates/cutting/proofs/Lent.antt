@@ -9,7 +9,7 @@ use lib.ListN.{length, take, drop, length-append, length-drop}
 use lib.Seq.{length-take-le, take-take, take_at}
 use Rattle.complex.specs.Numbers.{at}
 use Rattle.complex.specs.declared.Complex.{Complex}
-use Rattle.model.specs.Svd.{ordered, order_of, values_at, factored, any_nan}
+use Rattle.model.specs.Svd.{Svd, ordered, order_of, values_at, factored, any_nan}
 use Rattle.model.specs.Pair.{gated_theta, pair_svd}
 use Rattle.svd.specs.Order.{order_below}
 use Rattle.cutting.specs.declared.Shape.{Shape}
@@ -46,15 +46,25 @@ module _ (bl br mid : ℕ) (clamp : Float) (gate : List (List Complex)) (left ri
   pub nan_told : (b : Bool) → b ≡ any_nan s.wide (λ k. (at w (values_at s.high s.wide + k)).re) → b ≡ nan_in (pair_svd clamp bl mid br gate left right)
   nan_told b h = rw whole h
 
-  -- and the decomposition is the model's, with whatever follows it
+  -- as many numbers as it takes
+  same_room : length w ≡ length (take (2 * (s.vals + s.wide)) (matrix ++ drop (size s) work)) → length w ≡ room s
+  same_room n =
+      let r : 2 * (s.vals + s.wide) ≡ room s = omega (arith, shape_room bl br s e) in
+      let long' : room s ≤ length work = rw e long in
+      let fits : room s ≤ length (matrix ++ drop (size s) work) = simp (length-append, length-drop) (omega (arith, kept, length-take-le (size s) work (omega arith))) in
+      n ∙ ap (λ (k : ℕ). length (take k (matrix ++ drop (size s) work))) r ∙ length-take-le (room s) (matrix ++ drop (size s) work) fits
+
+  -- the slice begins with it, whatever follows
+  pub begins_told : (rest : List Float) → length w ≡ length (take (2 * (s.vals + s.wide)) (matrix ++ drop (size s) work))
+      → take (room (shape_of bl br)) (w ++ rest) ≡ (pair_svd clamp bl mid br gate left right).w
+  begins_told rest n = ap (λ (x : Shape). take (room x) (w ++ rest)) (sym e) ∙ take_at w rest (room s) (same_room n) ∙ ap (λ (d : Svd). d.w) (sym whole)
+
+  -- and the decomposition is the model's
   pub made_told : (order : List ℕ) → order ≡ order_of s.wide (λ k. (at w (values_at s.high s.wide + k)).re) → 1 ≤ bl → bl ≤ 128 → 1 ≤ br → br ≤ 128
       → (rest : List Float) → length w ≡ length (take (2 * (s.vals + s.wide)) (matrix ++ drop (size s) work))
       → Made bl br (pair_svd clamp bl mid br gate left right) (w ++ rest) (record { shape = s; order = order })
   made_told order o l hl m hr rest n =
-      let r : 2 * (s.vals + s.wide) ≡ room s = omega (arith, shape_room bl br s e) in
-      let long' : room s ≤ length work = rw e long in
-      let fits : room s ≤ length (matrix ++ drop (size s) work) = simp (length-append, length-drop) (omega (arith, kept, length-take-le (size s) work (omega arith))) in
-      let same : length w ≡ room s = n ∙ ap (λ (k : ℕ). length (take k (matrix ++ drop (size s) work))) r ∙ length-take-le (room s) (matrix ++ drop (size s) work) fits in
+      let same : length w ≡ room s = same_room n in
       let some : 1 ≤ s.wide = rw e (omega (arith, shape_wide bl br)) in
       record {
         whole = standing_ordered s w w rest order refl same o ∙ sym whole;

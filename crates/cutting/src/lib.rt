@@ -1,7 +1,7 @@
 // What one cut does below the chain record, on slices and numbers: the pair's decomposition at the front of the work slice, what is kept of its values, and the two sites made of its factors.
 #![tactic(auto)]
 
-ghost use Rattle.std.specs.Prelude.{◌≡◌, ◌*◌, ◌≤◌, IfSome, is_none, length};
+ghost use Rattle.std.specs.Prelude.{◌≡◌, ◌*◌, ◌≤◌, IfSome, is_none, length, take};
 ghost use Rattle.model.specs.Slots.{filled};
 ghost use Rattle.model.specs.Svd.{values};
 ghost use Rattle.model.specs.Pair.{gated_theta, pair_svd, left_site, right_site};
@@ -74,13 +74,14 @@ pub struct Decomposed {
     pub order: [u8; 256],
 }
 
-// The pair with the gate on it, decomposed; nothing where one of its values is a NaN. Here and in kept_values the settings
+// The pair with the gate on it, decomposed; nothing where one of its values is a NaN, with the decomposition in the work slice all the same. Here and in kept_values the settings
 // stay single numbers: kernels below moves take slices and numbers, and may not name the record that holds the settings.
-#[tactic(auto, using(crate::specs::Shape::shape_columns, crate::specs::Shape::shape_most, crate::specs::Shape::shape_cells, crate::specs::Shape::shape_room, crate::proofs::Lent::lengths, crate::proofs::Lent::nan_told))]
+#[tactic(auto, using(crate::specs::Shape::shape_columns, crate::specs::Shape::shape_most, crate::specs::Shape::shape_cells, crate::specs::Shape::shape_room, crate::proofs::Lent::lengths, crate::proofs::Lent::nan_told, crate::proofs::Lent::begins_told))]
 pub fn decompose(pair: &Neighbours, work: &mut [f64], clamp: f64) -> Option<Decomposed>
     requires le_left { (1 ≤ pair.now.bonds.left) × (1 ≤ pair.now.bonds.right) }
     requires work_bound { room (shape_of pair.now.bonds.left pair.now.bonds.right) ≤ length work.old }
     ensures nan { let d = pair_svd clamp pair.now.bonds.left pair.now.bonds.mid pair.now.bonds.right pair.now.gate.now pair.now.left.now pair.now.right.now in is_none result ≡ nan_in d }
+    ensures work_after { let d = pair_svd clamp pair.now.bonds.left pair.now.bonds.mid pair.now.bonds.right pair.now.gate.now pair.now.left.now pair.now.right.now in take (room (shape_of pair.now.bonds.left pair.now.bonds.right)) work.new ≡ d.w }
     ensures made { let d = pair_svd clamp pair.now.bonds.left pair.now.bonds.mid pair.now.bonds.right pair.now.gate.now pair.now.left.now pair.now.right.now in IfSome result (Made pair.now.bonds.left pair.now.bonds.right d work.new) }
 {
     let s = shape_of(pair.bonds.left, pair.bonds.right);
@@ -117,6 +118,7 @@ fn keep(s: &[f64], epsilon: f64, max_bond_dim: usize) -> Kept
 }
 
 // Of the decomposition in the work slice.
+// Here and in the two stores `Stands` is required: the work slice is lent, and what stands in it changes between the calls, so that no value carries the fact.
 pub fn kept_values(work: &[f64], d: &Decomposed, epsilon: f64, max_bond_dim: usize) -> Kept
     requires { (1 ≤ max_bond_dim) × Stands d.now.shape work.now d.now.order }
     ensures kept_of { KeptOf epsilon max_bond_dim (values (standing d.now.shape work.now d.now.order)) result }

@@ -3,7 +3,7 @@ use Rattle.std.specs.Prelude.{ℕ, ◌+◌, ◌≤◌, ◌<◌, ◌≡◌, refl,
 use Rattle.std.proofs.Common.{ap, ◌∙◌, arith, mul-le-mul_right}
 use Rattle.model.specs.declared.Chain.{Chain}
 use Rattle.model.specs.declared.Bonds.{Bonds}
-use Rattle.model.specs.Chain.{with_bond}
+use Rattle.model.specs.Chain.{bond_left, bond_right, with_bond}
 use Rattle.model.specs.Slots.{State, held, slot_of, slot_room, store_room, work_room}
 use Rattle.model.specs.Moves.{step_right, step_left, moved}
 use Rattle.model.specs.Statements.Soundness.{Sound}
@@ -18,11 +18,8 @@ pub record Ready (c : Chain) (store work : List Float) : Type 0 where
   pub work_room_lem : work_room c.max_bond_dim ≤ length work
 
 module _ {c : Chain} {store work : List Float} (h : Ready c store work) (k : ℕ) (l : k + 1 < c.num_qubits) (b : Bonds) (e : b ≡ pair_bonds c k) where
-  abbrev d : ℕ
-  d = c.max_bond_dim
-
   -- a chain that is ready has room for a step between each two neighbours
-  pub pair_ready : Pair d k b.left b.mid b.right store work
+  pub pair_ready : Pair c.max_bond_dim k b.left b.mid b.right store work
   pair_ready =
       let s = h.sound in
       let x = s.bonds.left_range k (omega arith) in
@@ -38,16 +35,24 @@ module _ {c : Chain} {store work : List Float} (h : Ready c store work) (k : ℕ
         work_room_lem = h.work_room_lem;
       })
 
-  -- what a step writes, with the bond, is the model's step. The bond between the sites is read at either of them
-  pub stepped_right : (r : Chain) (out : List Float) (chi : ℕ) → r ≡ with_bond c k chi → chi ≡ (factors_right d k b.left b.mid store).rank
-      → out ≡ stored_right d k b.left b.mid b.right (factors_right d k b.left b.mid store) (slot_of d (k + 1) store) store → held r out ≡ step_right k (held c store)
-  unfolding step_right
-  stepped_right r out chi er ec eo = rw (er, eo, ec, e) refl
+  -- the bond between the sites is read at either of them
+  pub left_bonds : b ≡ record { left = bond_left c k; mid = bond_left c (k + 1); right = bond_right c (k + 1) }
+  left_bonds = rw (e, h.sound.bonds.neighbours k l) refl
 
-  pub stepped_left : (r : Chain) (out : List Float) (chi : ℕ) → r ≡ with_bond c k chi → chi ≡ (factors_left d k b.mid b.right store).rank
-      → out ≡ stored_left d k b.left b.mid b.right (factors_left d k b.mid b.right store) (slot_of d k store) store → held r out ≡ step_left k (held c store)
+-- what a step writes, with the bond, is the model's step: to the right with the bond read at site k, to the left at site k + 1
+module _ (c r : Chain) (store out : List Float) (k : ℕ) (b : Bonds) (chi : ℕ) (er : r ≡ with_bond c k chi) where
+  abbrev cap : ℕ
+  cap = c.max_bond_dim
+
+  pub stepped_right : b ≡ pair_bonds c k → chi ≡ (factors_right cap k b.left b.mid store).rank
+      → out ≡ stored_right cap k b.left b.mid b.right (factors_right cap k b.left b.mid store) (slot_of cap (k + 1) store) store → held r out ≡ step_right k (held c store)
+  unfolding step_right
+  stepped_right e ec eo = rw (er, eo, ec, e) refl
+
+  pub stepped_left : b ≡ record { left = bond_left c k; mid = bond_left c (k + 1); right = bond_right c (k + 1) } → chi ≡ (factors_left cap k b.mid b.right store).rank
+      → out ≡ stored_left cap k b.left b.mid b.right (factors_left cap k b.mid b.right store) (slot_of cap k store) store → held r out ≡ step_left k (held c store)
   unfolding step_left
-  stepped_left r out chi er ec eo = rw (er, eo, ec, e) (rw (h.sound.bonds.neighbours k l) refl)
+  stepped_left e ec eo = rw (er, eo, ec, e) refl
 
 -- what a call leaves as it was: number of sites, cap, lengths of the slices
 pub record Stays (c r : Chain) (store out work room : List Float) : Type 0 where

@@ -1,7 +1,7 @@
 -- One turn of each walk, and none; a move, from what each of its parts leaves.
 use Prim.Native.Nat.{ℕ, suc, ◌+◌, ◌-◌, ◌*◌, ◌≤◌, ◌<◌}
-use Rattle.std.specs.Prelude.{◌≡◌, refl, Option, None, Some}
-use Rattle.std.proofs.Common.{sym, ap, ◌∙◌}
+use Rattle.std.specs.Prelude.{◌≡◌, ◌⊎◌, refl, Option, None, Some}
+use Rattle.std.proofs.Common.{sym, ap, ◌∙◌, ⊎_elim}
 use native.Mathlib.Omega.{arith}
 use borrow.Author.Tests.{le-leb, lt-leb}
 use Rattle.model.specs.declared.WeightSide.TheVariants.{Left, Right}
@@ -41,6 +41,14 @@ module _ (to last far : ℕ) (s : State) (n : last ≡ s.chain.num_qubits - 1) w
   pub established_up : last < 2 * to → far ≡ 0 → moved (last - far) to (moved far (last - far) s) ≡ established to s
   unfolding established
   established_up l e = let z : last - 0 ≡ last = omega arith in rw (← n, lt-leb (2 * to) last l, e, z)
+
+-- the end that a centre comes to from where it may be, and the other end, are sites
+module _ {A B : Type 0} (n far : ℕ) (l : 0 < n) (came : (A × (far ≡ n - 1)) ⊎ (B × (far ≡ 0))) where
+  pub end_below : far ≤ n - 1
+  end_below = ⊎_elim (λ w. omega (arith, w.1)) (λ w. omega (arith, w.1)) came
+
+  pub ends_within : (far < n) × (n - 1 - far < n)
+  ends_within = let h = end_below in (omega arith, omega arith)
 
 -- where no centre is recorded, and where one is
 module _ (k : ℕ) (center : Option ℕ) where

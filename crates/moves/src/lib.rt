@@ -1,5 +1,7 @@
 // Moves of the orthogonality centre by QR steps.
-// A step to the right and one to the left are two functions each: mirror images, whose sums and orders differ in more than a constant.
+// A step to the right and one to the left are two functions each. shift_center_right and shift_center_left are the Rust's own, by name;
+// the parts below them differ in the matrix, in which neighbour is copied, in which slot is filled and which absorbs, and in the
+// bonds, so that one function over a const parameter would hold a branch at each.
 #![tactic(auto)]
 
 ghost use Rattle.std.specs.Prelude.{◌≡◌, ◌+◌, ◌-◌, ◌*◌, ◌<◌, ◌≤◌, min, length, take};
@@ -103,6 +105,7 @@ fn keep_copy(site: &[f64], work: &mut [f64], q: usize, n: usize)
 }
 
 // ---- what a step writes: the two sites of the pair, from the first q floats of the work slice and the neighbour's copy behind them
+// Here and in a step `Pair` is required: the slices are lent, and what stands in them changes between the calls, so that no value carries the fact.
 
 fn write_right(
     store: &mut [f64],
@@ -208,8 +211,8 @@ fn step_left(store: &mut [f64], work: &mut [f64], d: usize, k: usize, bonds: Bon
     chi
 }
 
-// The bond between the sites k and k + 1.
-fn set_bond(chain: &mut Chain, k: usize, bond: usize)
+// The bond between the sites k and k + 1, in the entries of both.
+pub fn set_bond(chain: &mut Chain, k: usize, bond: usize)
     requires { (k < 63) × (bond ≤ 128) }
     ensures { chain.new ≡ with_bond chain.old k bond }
 {
@@ -244,6 +247,7 @@ fn aim_at(center: Option<usize>, k: usize) -> Aim
 // ---- the chain
 
 // The chain with its store and a work slice, as the Rust's backend holds them; `ready`: the record is sound, and the slices have room.
+// A function that lends a field on reborrows it into a variable first, which the borrow checker follows.
 #[derive(Drop)]
 pub struct Mps<'a> {
     pub chain: &'a mut Chain,

@@ -32,3 +32,7 @@ sound_passed c fits e t = sound_ranges c (ap not (sym e ∙ t))
 -- the numbers of an environment of that dimension, as floats
 pub entries_most : (d : ℕ) → d ≤ 128 → 2 * d * d ≤ 32768
 entries_most d h = omega (arith, mul-le-mul h h)
+
+-- and of a store of at most 64 sites
+pub store_most : (n d : ℕ) → Ranges n d → n * (4 * d * d) ≤ 4194304
+store_most n d h = let s : 4 * d * d ≤ 65536 = omega (arith, entries_most d h.1) in mul-le-mul h.0 s
