@@ -42,7 +42,8 @@ fn print_end<W: Write>(writer: &mut W, run: Run, text: &mut [u8]) -> io::Result<
 }
 
 // One piece: read, fed, and its lines printed. The answer is the run that goes on; none where the input has ended or
-// reading stops.
+// reading stops. Each slice is borrowed once and lent on by itself: lent on from the
+// fields was tried, and the proof didn't close.
 fn turn<R: Read, W: Write>(
     reader: &mut R,
     writer: &mut W,
@@ -68,7 +69,7 @@ fn turn<R: Read, W: Write>(
 
 // The whole run: what it prints is the text of its input, however that comes in pieces. A proved loop has to end, and
 // nothing says that the input does. So the turns are counted, up to a number that no run uses up. The store and the work
-// slice are those of which `lines_of` of stream speaks.
+// slice are those of which `lines_of` of stream speaks; that the memory is long enough is in its type.
 fn run_all<R: Read, W: Write>(reader: &mut R, writer: &mut W, memory: &mut Memory) -> io::Result<()>
     requires store_value { memory.old.store.now ≡ new_store }
     requires work_value { memory.old.work.now ≡ new_work }

@@ -3,14 +3,14 @@
 // A stream in the list is its length in bytes, 4 bytes least first, and its records.
 #![tactic(auto)]
 
-ghost use Rattle.std.specs.Prelude.{◌≤◌, ◌<◌, length, IfOk};
+ghost use Rattle.std.specs.Prelude.{◌≤◌, ◌<◌, length};
 
-use lines::{Line, print_line};
+use lines::print_line;
 use record::more_bytes;
 use session::{Session, new_session, step};
 use state_text::write_state;
 use std::io;
-use std::io::{Read, Write};
+use std::io::{ErrorKind, Read, Write};
 
 // ---- records
 
@@ -40,7 +40,7 @@ fn replay_record<W: Write>(
     let stepped = step(session, store, work, bytes);
     let session = stepped.session;
     print_line(writer, stepped.line)?;
-    if stepped.line.number == Line::STOP.number {
+    if stepped.line.stops() {
         return Ok(None);
     }
     if session.started {
@@ -79,27 +79,19 @@ fn replay_stream<W: Write>(writer: &mut W, bytes: &[u8]) -> io::Result<()> {
 
 // ---- the list
 
-// Reads until the slice is full or the input ends, and answers how many bytes came. Counted by hand, since each read says
-// how much it filled; `read_exact` does not tell a short end from a failure.
-fn read_full<R: Read>(reader: &mut R, bytes: &mut [u8]) -> io::Result<usize>
-    ensures { IfOk result (λ n. n ≤ length bytes.new) }
-{
-    let mut done: usize = 0;
-    while done < bytes.len() {
-        let got = reader.read(&mut bytes[done..])?;
-        if got == 0 {
-            break;
-        }
-        done += got;
+// Fills the slice, if the input does not end before it is full.
+fn read_whole<R: Read>(reader: &mut R, bytes: &mut [u8]) -> io::Result<bool> {
+    match reader.read_exact(bytes) {
+        Ok(()) => Ok(true),
+        Err(error) if error.kind() == ErrorKind::UnexpectedEof => Ok(false),
+        Err(error) => Err(error),
     }
-    Ok(done)
 }
 
 // The length of the next stream; none at the list's end.
 fn read_length<R: Read>(reader: &mut R) -> io::Result<Option<usize>> {
     let mut bytes = [0u8; 4];
-    let n = read_full(reader, &mut bytes)?;
-    if n < 4 {
+    if !read_whole(reader, &mut bytes)? {
         return Ok(None);
     }
     Ok(Some(u32::from_le_bytes(bytes) as usize))
@@ -116,7 +108,7 @@ fn replay_next<R: Read, W: Write>(reader: &mut R, writer: &mut W, number: u64) -
         writeln!(writer, "stream {number} refused: longer than 4096 bytes")?;
         return Ok(false);
     };
-    if read_full(reader, bytes)? < size {
+    if !read_whole(reader, bytes)? {
         return Ok(false);
     }
     writeln!(writer, "stream {number}")?;

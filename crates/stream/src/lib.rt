@@ -53,7 +53,7 @@ impl Fed {
         let out = step(self.run.session, store, work, record);
         self.written += write_line(&mut text[self.written..], out.line);
         self.run.session = out.session;
-        self.run.stopped = out.line.kind == 0;
+        self.run.stopped = out.line.stops();
         self.run.pending = 0;
     }
 }
@@ -110,8 +110,8 @@ pub fn feed(
     fed
 }
 
-// The input's end: a record that is cut off gives the line `0 8`. The answer is how many bytes of text were written;
-// none where the text has less room than 25.
+// The input's end: a record that is cut off gives the line `0 8`. The answer is a count, and so no Option: how many bytes of
+// text were written, 0 where the text has less room than 25.
 #[tactic(auto, using(crate::proofs::Laws::Turns::nothing_more, crate::proofs::Laws::Turns::cut_off))]
 pub fn end(run: Run, text: &mut [u8]) -> usize
     ensures { ending text.new result ≡ ended run text.old }

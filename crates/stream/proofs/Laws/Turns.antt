@@ -1,5 +1,5 @@
 -- Laws of feeding: what each byte does, and when none is taken.
-use Rattle.std.specs.Prelude.{ℕ, ◌+◌, ◌-◌, ◌≤◌, ◌<◌, ◌≡◌, Bool, true, false, not, ◌&&◌, T, ltb, leb}
+use Rattle.std.specs.Prelude.{ℕ, ◌+◌, ◌-◌, ◌≤◌, ◌<◌, ◌≡◌, Bool, true, false, not, ◌&&◌, T, ltb, leb, Float}
 use Rattle.std.proofs.Math.Path.{refl, sym, ap}
 use Rattle.std.proofs.Common.{subst, ◌∙◌, inl, inr, ◌⊎◌, add-one, arith, le-leb, le-ltb, ltb-true, leb-true, leb-false, length-append, length-drop, drop_of_length-le, take_all, drop-cons}
 use Rattle.std.proofs.Math.Bool.{cond}
@@ -16,6 +16,7 @@ use Rattle.record.proofs.Frames.{size_two}
 use Rattle.lines.specs.declared.Line.{Line}
 use Rattle.lines.specs.Text.{line_text, line_room, written, written_length}
 use Rattle.lines.specs.Writing.{length_line}
+use Rattle.session.specs.declared.Session.{Session}
 use Rattle.session.specs.Session.{Left, stop_line, step_of}
 use Rattle.stream.specs.declared.Run.{Run}
 use Rattle.stream.specs.Output.{stops}
@@ -61,6 +62,14 @@ module _ (line : Line) (text : List ℕ) (n : ℕ) (h : n + line_room ≤ length
       ∙ sym (append_assoc (take n text) (line_text line) (drop (n + k) text))
       ∙ sym (sets-eq (line_text line) text n (omega (arith, length_line line)))
 
+-- a record's step with its line written by its part of the text is the record done
+pub recorded : (s : Session) (store work : List Float) (text r : List ℕ) (n : ℕ) (l : Left) (ys : List ℕ) (m : ℕ) → n + line_room ≤ length text → l ≡ step_of s store work r
+    → ys ≡ written l.line (part n (length text) text) → m ≡ written_length l.line (part n (length text) text)
+    → progress l.session (stops l.line) l.store l.work (put n (length text) text ys) (n + m) ≡ record_done (progress s false store work text n) r
+recorded s store work text r n l ys m h e ey em =
+    (λ i. progress l.session (stops l.line) l.store l.work ((ap (put n (length text) text) ey ∙ line_put l.line text n h) i) (n + (em ∙ line_long l.line text n h) i))
+    ∙ ap (λ (x : Left). printed x text n) e
+
 -- a record that is not whole waits, and one that is whole is done, its line written by its part of the text
 module _ (f : Feeding) where
   pub waits : whole (in_progress f) ≡ false → f ≡ if_whole f
@@ -68,14 +77,14 @@ module _ (f : Feeding) where
   waits w = rw w refl
 
   pub is_done : whole (in_progress f) ≡ true → f.progress.written + line_room ≤ length f.progress.text
-      → (l : Left) (ys : List ℕ) (m : ℕ) → l ≡ step_of f.progress.session f.progress.store f.progress.work (in_progress f)
+      → (l : Left) (t : Bool) (ys : List ℕ) (m : ℕ) → l ≡ step_of f.progress.session f.progress.store f.progress.work (in_progress f) → t ≡ stops l.line
       → ys ≡ written l.line (part f.progress.written (length f.progress.text) f.progress.text) → m ≡ written_length l.line (part f.progress.written (length f.progress.text) f.progress.text)
-      → feeding (progress l.session (stops l.line) l.store l.work (put f.progress.written (length f.progress.text) f.progress.text ys) (f.progress.written + m)) f.bytes 0 f.used ≡ if_whole f
+      → feeding (progress l.session t l.store l.work (put f.progress.written (length f.progress.text) f.progress.text ys) (f.progress.written + m)) f.bytes 0 f.used ≡ if_whole f
   unfolding if_whole
-  is_done w h l ys m e ey em =
+  is_done w h l t ys m e et ey em =
       let p = f.progress in
-      (λ i. feeding (progress l.session (stops l.line) l.store l.work ((ap (put p.written (length p.text) p.text) ey ∙ line_put l.line p.text p.written h) i) (p.written + (em ∙ line_long l.line p.text p.written h) i)) f.bytes 0 f.used)
-      ∙ ap (λ (x : Left). feeding (printed x p.text p.written) f.bytes 0 f.used) e
+      ap (λ (u : Bool). feeding (progress l.session u l.store l.work (put p.written (length p.text) p.text ys) (p.written + m)) f.bytes 0 f.used) et
+      ∙ ap (λ (x : Progress). feeding x f.bytes 0 f.used) (recorded p.session p.store p.work p.text (in_progress f) p.written l ys m h e ey em)
       ∙ sym (ap (λ (t : Bool). cond t (feeding (record_done p (in_progress f)) f.bytes 0 f.used) f) w)
 
 -- ---- the input's end

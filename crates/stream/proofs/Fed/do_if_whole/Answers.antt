@@ -5,4 +5,4 @@ use Rattle.stream.proofs.Fed.do_if_whole.Goals as goal
 
 pub returns : goal.returns
 returns c = let a = c.args in
-    is_done (after a.self.now a.store.now a.work.now a.bytes.now a.text.now) (sym c.is_whole.ensures ∙ c.if-not-is_whole.false) c.requires.has_room _ _ _ c.step-out.ensures c.write_line.ensures.out_after c.write_line.ensures.value
+    is_done (after a.self.now a.store.now a.work.now a.bytes.now a.text.now) (sym c.is_whole.ensures ∙ c.if-not-is_whole.false) c.requires.has_room _ _ _ _ c.step-out.ensures c.stops-self.ensures c.write_line.ensures.out_after c.write_line.ensures.value
