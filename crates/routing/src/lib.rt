@@ -23,12 +23,12 @@ fn swap_layout_labels(chain: &mut Chain, left_site: usize)
     requires left_site_bound { left_site + 1 < chain.old.num_qubits }
     ensures { chain.new ≡ relabelled left_site chain.old }
 {
-    let a = usize::from(chain.site_to_logical[left_site]);
-    let b = usize::from(chain.site_to_logical[left_site + 1]);
-    chain.site_to_logical[left_site] = b as u8;
-    chain.site_to_logical[left_site + 1] = a as u8;
-    chain.logical_to_site[a] = (left_site + 1) as u8;
-    chain.logical_to_site[b] = left_site as u8;
+    let a = chain.site_to_logical[left_site];
+    let b = chain.site_to_logical[left_site + 1];
+    chain.site_to_logical[left_site] = b;
+    chain.site_to_logical[left_site + 1] = a;
+    chain.logical_to_site[usize::from(a)] = (left_site + 1) as u8;
+    chain.logical_to_site[usize::from(b)] = left_site as u8;
 }
 
 // One swap of the route: the cut, then the labels.
@@ -38,7 +38,7 @@ fn swap_step(mps: &mut Mps, k: usize) -> Answer
     ensures place { Same mps.old mps.new }
 {
     let gate = NamedGate::Swap.matrix_4x4();
-    let _reason = apply_adjacent_two_qubit(mps, gate, k)?;
+    apply_adjacent_two_qubit(mps, gate, k)?;
     swap_layout_labels(mps.chain, k);
     Ok(())
 }
