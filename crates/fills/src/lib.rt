@@ -66,7 +66,8 @@ fn fill_row<F: Fn(usize, usize) -> Complex>(out: &mut [f64], number: &F, r: usiz
 }
 
 // The rows of a matrix, one after the other: number c of row r is number(r, c). They are lent by index, since
-// `chunks_exact_mut` takes no empty rows, and no column may be kept.
+// `chunks_exact_mut` takes no empty rows, and no column may be kept. A row's size is taken
+// where there is a row, so that it fits.
 #[tactic(auto, using(complex::specs::Matrix::block_none))]
 pub fn fill_rows<F: Fn(usize, usize) -> Complex>(
     slot: &mut [f64],
@@ -74,16 +75,16 @@ pub fn fill_rows<F: Fn(usize, usize) -> Complex>(
     wide: usize,
     number: F,
 )
-    requires { (high ≤ 256) × (wide ≤ 256) × (2 * (high * wide) ≤ length slot.old) × ((r c : ℕ) → r < high → c < wide → F.pre number r c) }
+    requires { (2 * (high * wide) ≤ length slot.old) × ((r c : ℕ) → r < high → c < wide → F.pre number r c) }
     ensures { (f : ℕ → ℕ → _) → ((r c : ℕ) (z : _) → r < high → c < wide → F.post number r c z → z ≡ f r c) → slot.new ≡ filled (length slot.old) (rows high (λ r. numbers wide (f r))) }
 {
-    let size = 2 * wide;
     for r in 0..high {
+        let size = 2 * wide;
         let a = r * size;
         let e = a + size;
         fill_row(&mut slot[a..e], &number, r, wide);
     }
-    clear_from(slot, high * size);
+    clear_from(slot, 2 * (high * wide));
 }
 
 // ---- the left site: row r has an element of each column

@@ -11,4 +11,4 @@ use Rattle.fills.proofs.fill_rows.Given as goal
 abbrev pub invariant-loop-r : goal.invariant-loop-r
 invariant-loop-r g l =
     (f : ℕ → ℕ → Complex) → ((r c : ℕ) (z : Complex) → r < l.high → c < l.wide → goal.F-post g l.number r c z → z ≡ f r c)
-    → l.slot ≡ rows l.r (λ r. numbers l.wide (f r)) ++ drop (l.r * l.size) l.initial.slot
+    → l.slot ≡ rows l.r (λ r. numbers l.wide (f r)) ++ drop (l.r * (2 * l.wide)) l.initial.slot
