@@ -53,6 +53,7 @@ fn apply_records(chain: Chain, store: &mut [f64], work: &mut [f64], gates: &[u8]
 }
 
 // A chain started, then the gates: the weight that the cuts discarded.
+#[tactic(auto, unfolding(crate::specs::Gates::gates_from))]
 #[unsafe(no_mangle)]
 pub extern "C" fn jondwave_gates(
     n: usize,
