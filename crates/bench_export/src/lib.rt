@@ -11,6 +11,7 @@ use model::Chain;
 use record::read_gate;
 
 // The gate in the bytes of a record, on the qubits q0 and q1.
+#[tactic(auto, unfolding(crate::specs::Gates::gate_on))]
 fn apply_record(
     chain: Chain,
     store: &mut [f64],
@@ -37,7 +38,9 @@ fn apply_at(chain: Chain, store: &mut [f64], work: &mut [f64], gates: &[u8], k: 
     apply_record(chain, store, work, &gates[a..b], q0, q1)
 }
 
-// All whole records of 262 bytes, in order.
+// All whole records of 262 bytes, in order. By index: record k is what the promise counts, and a loop over chunks would
+// need the same count in its invariant.
+#[tactic(auto, using(complex::specs::Loops::each_none, complex::specs::Loops::each_more))]
 fn apply_records(chain: Chain, store: &mut [f64], work: &mut [f64], gates: &[u8]) -> Chain
     ensures { left result store.new work.new ≡ each (length gates.now / 262) (record_step gates.now) (left chain store.old work.old) }
 {
@@ -50,6 +53,7 @@ fn apply_records(chain: Chain, store: &mut [f64], work: &mut [f64], gates: &[u8]
 }
 
 // A chain started, then the gates: the weight that the cuts discarded.
+#[tactic(auto, unfolding(crate::specs::Gates::gates_from))]
 #[unsafe(no_mangle)]
 pub extern "C" fn jondwave_gates(
     n: usize,
