@@ -1,7 +1,6 @@
 -- A chain, its store and its work slice, and a list of gate records run on them one after the other, whatever each answers.
-use Rattle.std.specs.Prelude.{ℕ, ◌+◌, ◌*◌, ◌/◌, ◌≡◌, List, length, get_or, Float}
-use Rattle.std.proofs.Common.{sym, ap, ◌∙◌}
-use Rattle.complex.specs.Loops.{each, each_more}
+use Rattle.std.specs.Prelude.{ℕ, ◌+◌, ◌*◌, ◌/◌, List, length, get_or, Float}
+use Rattle.complex.specs.Loops.{each}
 use Rattle.complex.specs.Parts.{part}
 use Rattle.complex.specs.declared.Complex.{Complex}
 use Rattle.model.specs.declared.Chain.{Chain}
@@ -32,12 +31,3 @@ unfoldable pub gates_from : ℕ → ℕ → Float → Float → List ℕ → Lis
 gates_from n d epsilon clamp bytes store work =
     let s = start_call n d epsilon clamp 63 store in
     each (length bytes / 262) (record_step bytes) (left s.chain s.store work)
-
--- ---- laws
-
-pub records_more : (bytes : List ℕ) (k : ℕ) (x y z : Left) → y ≡ record_step bytes k x → x ≡ each k (record_step bytes) z → y ≡ each (k + 1) (record_step bytes) z
-records_more bytes k x y z h i = h ∙ ap (record_step bytes k) i ∙ sym (each_more k (record_step bytes) z)
-
-pub record_at : (bytes : List ℕ) (k q0 q1 : ℕ) (x y : Left) → q0 ≡ get_or bytes (262 * k + 4) 0 → q1 ≡ get_or bytes (262 * k + 5) 0
-    → y ≡ gate_on q0 q1 (gate_read (part (262 * k) (262 * k + 262) bytes)) x → y ≡ record_step bytes k x
-record_at bytes k q0 q1 x y e f h = h ∙ (λ t. gate_on (e t) (f t) (gate_read (part (262 * k) (262 * k + 262) bytes)) x)
