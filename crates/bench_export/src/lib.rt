@@ -27,7 +27,6 @@ fn apply_record(
 }
 
 // Record k of the bytes.
-#[tactic(auto, using(crate::specs::Gates::record_at))]
 fn apply_at(chain: Chain, store: &mut [f64], work: &mut [f64], gates: &[u8], k: usize) -> Chain
     requires { k < length gates.now / 262 }
     ensures { left result store.new work.new ≡ record_step gates.now k (left chain store.old work.old) }
@@ -39,14 +38,9 @@ fn apply_at(chain: Chain, store: &mut [f64], work: &mut [f64], gates: &[u8], k: 
     apply_record(chain, store, work, &gates[a..b], q0, q1)
 }
 
-<<<<<<< HEAD
-// All whole records of 262 bytes, in order.
-#[tactic(auto, using(complex::specs::Loops::each_none))]
-=======
 // All whole records of 262 bytes, in order. By index: record k is what the promise counts, and a loop over chunks would
 // need the same count in its invariant.
 #[tactic(auto, using(complex::specs::Loops::each_none, complex::specs::Loops::each_more))]
->>>>>>> 21dc6d1fa9be098c888b41e70532e7e15ca20190
 fn apply_records(chain: Chain, store: &mut [f64], work: &mut [f64], gates: &[u8]) -> Chain
     ensures { left result store.new work.new ≡ each (length gates.now / 262) (record_step gates.now) (left chain store.old work.old) }
 {

@@ -40,7 +40,7 @@ impl Fed {
     }
 
     // A record that is whole is done: its step, and its line behind the text that is there.
-    #[tactic(auto, using(crate::proofs::Laws::Turns::line_long, crate::proofs::Laws::Turns::line_put, lines::specs::Writing::length_line), unfolding(crate::specs::Feeding::if_whole))]
+    #[tactic(auto, using(crate::proofs::Laws::Turns::waits, crate::proofs::Laws::Turns::line_long, lines::specs::Writing::length_line))]
     fn do_if_whole(&mut self, store: &mut [f64], work: &mut [f64], bytes: &[u8], text: &mut [u8])
         requires in_bytes { self.old.run.pending ≤ length bytes.now }
         requires has_room { self.old.written + 25 ≤ length text.old }
@@ -82,7 +82,7 @@ fn is_whole(bytes: &[u8]) -> bool
 // Takes the bytes of a piece, does every record that they complete, and writes the records' lines to the text. `bytes`
 // holds the record in progress, and needs 262. A byte is taken only while the text has room for a line, 25 bytes: if
 // fewer bytes were used than the piece has, and reading has not stopped, room is what is lacking.
-#[tactic(auto, using(crate::proofs::Laws::Turns::all_taken, crate::proofs::Laws::Turns::shut, crate::proofs::Laws::Turns::one_byte, crate::proofs::Laws::Turns::whole_used, crate::proofs::Laws::Turns::whole_within))]
+#[tactic(auto, using(crate::proofs::Laws::Turns::all_taken, crate::proofs::Laws::Turns::shut))]
 pub fn feed(
     run: Run,
     store: &mut [f64],
@@ -110,15 +110,9 @@ pub fn feed(
     fed
 }
 
-<<<<<<< HEAD
 // The input's end: a record that is cut off gives the line `0 8`. The answer is a count, and so no Option: how many bytes of
 // text were written, 0 where the text has less room than 25.
 #[tactic(auto, using(crate::proofs::Laws::Turns::nothing_more, crate::proofs::Laws::Turns::cut_off))]
-=======
-// The input's end: a record that is cut off gives the line `0 8`. The answer is how many bytes of text were written;
-// none where the text has less room than 25.
-#[tactic(auto, unfolding(crate::specs::Feeding::ended))]
->>>>>>> 21dc6d1fa9be098c888b41e70532e7e15ca20190
 pub fn end(run: Run, text: &mut [u8]) -> usize
     ensures { ending text.new result ≡ ended run text.old }
 {

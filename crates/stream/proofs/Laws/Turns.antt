@@ -1,10 +1,10 @@
 -- Laws of feeding: what each byte does, and when none is taken.
 use Rattle.std.specs.Prelude.{ℕ, ◌+◌, ◌-◌, ◌≤◌, ◌<◌, ◌≡◌, Bool, true, false, not, ◌&&◌, T, ltb, leb, Float}
 use Rattle.std.proofs.Math.Path.{refl, sym, ap}
-use Rattle.std.proofs.Common.{subst, ◌∙◌, add-one, arith, le-leb, le-ltb, ltb-true, leb-true, leb-false, length-append, length-drop, drop_of_length-le, take_all, drop-cons}
+use Rattle.std.proofs.Common.{subst, ◌∙◌, inl, inr, ◌⊎◌, add-one, arith, le-leb, le-ltb, ltb-true, leb-true, leb-false, length-append, length-drop, drop_of_length-le, take_all, drop-cons}
 use Rattle.std.proofs.Math.Bool.{cond}
 use mathlib.Core.List.{List, [], ◌∷◌, ◌++◌, append_assoc}
-use Rattle.std.proofs.lemmas.Bool.{lt-leb}
+use Rattle.std.proofs.lemmas.Bool.{lt-leb, ne_eqb}
 use Rattle.std.proofs.Math.ListN.{length, get_or, take, drop}
 use Rattle.std.proofs.lemmas.List.Edits.{sets, sets-eq}
 use Rattle.std.proofs.Math.Seq.{length-sets, drop-drop}
@@ -16,14 +16,11 @@ use Rattle.record.proofs.Frames.{size_two}
 use Rattle.lines.specs.declared.Line.{Line}
 use Rattle.lines.specs.Text.{line_text, line_room, written, written_length}
 use Rattle.lines.specs.Writing.{length_line}
-<<<<<<< HEAD
 use Rattle.session.specs.declared.Session.{Session}
 use Rattle.session.specs.Session.{Left, stop_line, step_of}
-=======
-use Rattle.session.specs.Session.{stop_line, step_of}
->>>>>>> 21dc6d1fa9be098c888b41e70532e7e15ca20190
 use Rattle.stream.specs.declared.Run.{Run}
-use Rattle.stream.specs.Feeding.{Progress, record_done, Feeding, feeding, in_progress, with_byte, if_whole, can_take, takes, fed, ending, is_between, ended}
+use Rattle.stream.specs.Output.{stops}
+use Rattle.stream.specs.Feeding.{Progress, progress, printed, record_done, Feeding, feeding, in_progress, with_byte, if_whole, can_take, takes, fed, ending, is_between, ended}
 
 -- ---- whether a record is whole
 
@@ -65,7 +62,6 @@ module _ (line : Line) (text : List ℕ) (n : ℕ) (h : n + line_room ≤ length
       ∙ sym (append_assoc (take n text) (line_text line) (drop (n + k) text))
       ∙ sym (sets-eq (line_text line) text n (omega (arith, length_line line)))
 
-<<<<<<< HEAD
 -- a record's step with its line written by its part of the text is the record done
 pub recorded : (s : Session) (store work : List Float) (text r : List ℕ) (n : ℕ) (l : Left) (ys : List ℕ) (m : ℕ) → n + line_room ≤ length text → l ≡ step_of s store work r
     → ys ≡ written l.line (part n (length text) text) → m ≡ written_length l.line (part n (length text) text)
@@ -103,8 +99,6 @@ module _ (r : Run) (text : List ℕ) where
   unfolding ended
   cut_off e z after n ea en = rw e (rw (ne_eqb r.pending 0 z) (λ i. ending (ea i) (en i)))
 
-=======
->>>>>>> 21dc6d1fa9be098c888b41e70532e7e15ca20190
 -- ---- bytes
 
 -- what the test says where it holds
@@ -139,28 +133,25 @@ module _ (f : Feeding) (piece : List ℕ) (i : ℕ) where
       by [] = refl
       by (b ∷ bs) = sym (ap (λ (t : Bool). cond t (fed (if_whole (with_byte f b)) bs) f) e)
 
-  pub one_byte : i < length piece → takes f ≡ true → fed f (drop i piece) ≡ fed (if_whole (with_byte f (get_or piece i 0))) (drop (i + 1) piece)
+  pub one_byte : i < length piece → takes f ≡ true → (x : Feeding) → x ≡ if_whole (with_byte f (get_or piece i 0)) → fed x (drop (i + 1) piece) ≡ fed f (drop i piece)
   unfolding fed
-  one_byte h e =
-      ap (fed f) (drop-cons piece i 0 h ∙ ap (λ n. get_or piece i 0 ∷ drop n piece) (sym (add-one i)))
-      ∙ ap (λ (t : Bool). cond t (fed (if_whole (with_byte f (get_or piece i 0))) (drop (i + 1) piece)) f) e
+  one_byte h e x ex =
+      ap (λ (y : Feeding). fed y (drop (i + 1) piece)) ex
+      ∙ sym (ap (fed f) (drop-cons piece i 0 h ∙ ap (λ n. get_or piece i 0 ∷ drop n piece) (sym (add-one i)))
+      ∙ ap (λ (t : Bool). cond t (fed (if_whole (with_byte f (get_or piece i 0))) (drop (i + 1) piece)) f) e)
 
 -- ---- what is written lies within the text
 
-module _ (f : Feeding) where
-  either : (P : Feeding → Type 0) → P (feeding (record_done f.progress (in_progress f)) f.bytes 0 f.used) → P f → P (if_whole f)
-  unfolding if_whole
-  either P d w = by (whole (in_progress f))
-    where
-      by : (t : Bool) → P (cond t (feeding (record_done f.progress (in_progress f)) f.bytes 0 f.used) f)
-      by true = d
-      by false = w
+pub whole_within : (f x : Feeding) → x ≡ if_whole f → f.progress.written + line_room ≤ length f.progress.text → (x.used ≡ f.used) × (x.progress.written ≤ length x.progress.text)
+unfolding if_whole
+whole_within f x e h = subst (λ (y : Feeding). (y.used ≡ f.used) × (y.progress.written ≤ length y.progress.text)) (sym e) (by (whole (in_progress f)))
+  where
+    done : Feeding
+    done = feeding (record_done f.progress (in_progress f)) f.bytes 0 f.used
 
-  pub whole_used : (if_whole f).used ≡ f.used
-  whole_used = either (λ g. g.used ≡ f.used) refl refl
-
-  pub whole_within : f.progress.written + line_room ≤ length f.progress.text → (if_whole f).progress.written ≤ length (if_whole f).progress.text
-  whole_within h = either (λ g. g.progress.written ≤ length g.progress.text) (line_within (record_done f.progress (in_progress f)) f.progress (in_progress f) refl h) (omega (arith, h))
+    by : (t : Bool) → ((cond t done f).used ≡ f.used) × ((cond t done f).progress.written ≤ length (cond t done f).progress.text)
+    by true = (refl, line_within done.progress f.progress (in_progress f) refl h)
+    by false = (refl, omega (arith, h))
 
 pub fed_within : (f : Feeding) (bytes : List ℕ) → f.progress.written ≤ length f.progress.text → (fed f bytes).progress.written ≤ length (fed f bytes).progress.text
 unfolding fed
@@ -169,7 +160,7 @@ fed_within f (b ∷ bs) h = by (λ m k. fed_within m bs k) (takes f) refl
   where
     by : ((m : Feeding) → m.progress.written ≤ length m.progress.text → (fed m bs).progress.written ≤ length (fed m bs).progress.text) → (t : Bool) → takes f ≡ t
         → (cond t (fed (if_whole (with_byte f b)) bs) f).progress.written ≤ length (cond t (fed (if_whole (with_byte f b)) bs) f).progress.text
-    by k true e = k (if_whole (with_byte f b)) (whole_within (with_byte f b) (taking f e).2)
+    by k true e = k (if_whole (with_byte f b)) (whole_within (with_byte f b) (if_whole (with_byte f b)) refl (taking f e).2).1
     by k false e = h
 
 pub ended_within : (r : Run) (text : List ℕ) → (ended r text).written ≤ length (ended r text).text
