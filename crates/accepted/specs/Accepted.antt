@@ -12,7 +12,6 @@ use Rattle.model.proofs.Laws.Refusals.{passes_sound}
 use Rattle.model.specs.Environment.{left_env, right_env}
 use Rattle.model.proofs.Laws.EnvironmentLaws.{left_env_squared, right_env_squared}
 use Rattle.moves.specs.Ready.{Ready}
-use Rattle.environments.specs.Walk.{Walkable}
 
 -- the record's test tells what a sound record is
 pub sound_told : (c : Chain) → sound c ≡ true → (sound c ≡ true) × Sound c
@@ -21,9 +20,6 @@ sound_told c e = (e, passes_sound c (ap not e))
 -- the part of the work slice that is lent is as long as it is to be
 pub ready_part : (c : Chain) (store work : List Float) (room : ℕ) → Sound c → store_room c.num_qubits c.max_bond_dim ≤ length store → work_room c.max_bond_dim ≤ length work → room ≡ work_room c.max_bond_dim → Ready c store (take room work)
 ready_part c store work room h l m e = record { sound = h; store_room_lem = l; work_room_lem = omega (arith, length-take-le room work (omega arith)) }
-
-pub walkable_part : (c : Chain) (store work : List Float) (room : ℕ) → Sound c → store_room c.num_qubits c.max_bond_dim ≤ length store → work_room c.max_bond_dim ≤ length work → room ≡ work_room c.max_bond_dim → Walkable c store (take room work)
-walkable_part c store work room h l m e = record { sound = h; store_room_lem = l; work_room_lem = omega (arith, length-take-le room work (omega arith)) }
 
 -- and +0 where it was lent, whatever a run left there
 pub cleared_front : (c : Chain) (work used : List Float) (room : ℕ) → work_room c.max_bond_dim ≤ length work → room ≡ work_room c.max_bond_dim → length used ≡ length (take room work) → replicate room zero_f ++ drop room (used ++ drop room work) ≡ cleared c work

@@ -118,7 +118,7 @@ pub fn run_reset(chain: &mut Chain, store: &mut [f64], work: &mut [f64], q: usiz
 // that they run (see `environments`)
 
 // The left environment of a site, the sites from `from` on contracted, into the result slice.
-#[tactic(auto, using(std::proofs::lemmas::Bool::Decides::nat_tests, crate::specs::Accepted::sound_told, crate::specs::Accepted::walkable_part, crate::specs::Accepted::cleared_front, crate::specs::Accepted::left_few, crate::specs::Accepted::written), unfolding(model::specs::Calls::left_environment_call))]
+#[tactic(auto, using(std::proofs::lemmas::Bool::Decides::nat_tests, crate::specs::Accepted::sound_told, crate::specs::Accepted::ready_part, crate::specs::Accepted::cleared_front, crate::specs::Accepted::left_few, crate::specs::Accepted::written), unfolding(model::specs::Calls::left_environment_call))]
 pub fn run_left_environment(
     chain: &Chain,
     store: &[f64],
@@ -138,7 +138,7 @@ pub fn run_left_environment(
 }
 
 // The right environment of a site, the sites from `to` back to the next one contracted, into the result slice.
-#[tactic(auto, using(std::proofs::lemmas::Bool::Decides::nat_tests, crate::specs::Accepted::sound_told, crate::specs::Accepted::walkable_part, crate::specs::Accepted::cleared_front, crate::specs::Accepted::right_few, crate::specs::Accepted::written), unfolding(model::specs::Calls::right_environment_call))]
+#[tactic(auto, using(std::proofs::lemmas::Bool::Decides::nat_tests, crate::specs::Accepted::sound_told, crate::specs::Accepted::ready_part, crate::specs::Accepted::cleared_front, crate::specs::Accepted::right_few, crate::specs::Accepted::written), unfolding(model::specs::Calls::right_environment_call))]
 pub fn run_right_environment(
     chain: &Chain,
     store: &[f64],

@@ -42,8 +42,8 @@ fn print_end<W: Write>(writer: &mut W, run: Run, text: &mut [u8]) -> io::Result<
 }
 
 // One piece: read, fed, and its lines printed. The answer is the run that goes on; none where the input has ended or
-// reading stops. Each slice is borrowed once and lent on by itself: lent on from the
-// fields was tried, and the proof didn't close.
+// reading stops. Each slice is borrowed once and lent on by itself: lending on from the fields was tried, and the proof
+// didn't close.
 fn turn<R: Read, W: Write>(
     reader: &mut R,
     writer: &mut W,

@@ -1,7 +1,8 @@
 -- Counted loops: n steps from a state, and sums from the left. A loop's invariant says that its state is `each k step start`.
-use Rattle.std.specs.Prelude.{◌≡◌, refl, Bool, true, ◌&&◌, List, [], ◌∷◌, ◌++◌, ℕ, zero, suc, ◌+◌, ◌-◌, ◌*◌, ◌≤◌, ◌<◌, T, length, get_or, Float}
+use Rattle.std.specs.Prelude.{◌≡◌, refl, Bool, true, ◌&&◌, List, [], ◌∷◌, ◌++◌, ℕ, zero, suc, ◌+◌, ◌-◌, ◌*◌, ◌≤◌, ◌<◌, T, length, get_or, take, set, Float}
 use Rattle.std.proofs.Common.{sym, ap, ◌∙◌, ⊎_elim, le_refl, eq-or-lt_of_le, le_of_suc-le-suc, not-suc-le-zero, add-zero, add-suc, zero-mul, suc-mul, add-one, arith, length-append}
 use Rattle.std.proofs.Math.ListN.{get_or-append}
+use Rattle.std.proofs.Math.Seq.{take-suc-set}
 use Rattle.std.proofs.lemmas.List.{get_or_at}
 use Rattle.std.specs.Float.{binary64}
 use Rattle.std.specs.Float.Ieee.{add}
@@ -108,7 +109,18 @@ unfolding every
 every_of zero p h = tt
 every_of (suc n) p h = and_i (every n p) (p n) (every_of n p (λ k l. h k (omega arith))) (h n (le_refl (suc n)))
 
--- ---- a list by its elements
+-- ---- a list by its elements, and one that is written from its front on
+
+pub tabulate_none : {A : Type 0} (f : ℕ → A) → tabulate 0 f ≡ []
+unfolding tabulate
+tabulate_none f = refl
+
+pub tabulate_more : {A : Type 0} (n : ℕ) (f : ℕ → A) → tabulate (n + 1) f ≡ tabulate n f ++ (f n ∷ [])
+unfolding tabulate
+tabulate_more n f = rw add-one
+
+pub take_set : {A : Type 0} (n : ℕ) (xs : List A) (x : A) → n < length xs → take (n + 1) (set xs n x) ≡ take n xs ++ (x ∷ [])
+take_set n xs x h = rw (add-one, take-suc-set)
 
 pub length_tabulate : {A : Type 0} (n : ℕ) (f : ℕ → A) → length (tabulate n f) ≡ n
 unfolding tabulate

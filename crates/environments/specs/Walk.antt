@@ -1,22 +1,14 @@
--- What a step across a site needs, and the environment after each step.
+-- The environment after each step of a walk.
 use Rattle.std.specs.Prelude.{ℕ, ◌+◌, ◌-◌, ◌*◌, ◌≤◌, ◌<◌, ◌≡◌, List, length, take, Float}
 use Rattle.std.proofs.Common.{sym, ap, ◌∙◌, arith}
 use Rattle.complex.specs.Loops.{each, each_none, each_more, between, between_none, between_more}
 use Rattle.model.specs.declared.Chain.{Chain}
 use Rattle.model.specs.Chain.{bond_left, bond_right}
-use Rattle.model.specs.Slots.{held, site_at, store_room, work_room}
+use Rattle.model.specs.Slots.{held, site_at}
 use Rattle.model.specs.Environment.{Env, identity_env, left_across, right_across, left_step, right_step, left_env, right_env}
 use Rattle.model.specs.Statements.Soundness.{Sound}
 use Rattle.walks.specs.Products.{env_of}
 use Rattle.walks.specs.Steps.{left_env_lem, right_env_lem}
-
--- ---- room
-
--- a sound record, its store, and room to work
-pub record Walkable (c : Chain) (store work : List Float) : Type 0 where
-  pub sound : Sound c
-  pub store_room_lem : store_room c.num_qubits c.max_bond_dim ≤ length store
-  pub work_room_lem : work_room c.max_bond_dim ≤ length work
 
 -- ---- the walks, step by step. What holds before a step, `LeftAt` and `RightAt`, stays closed in the proofs of the loops, which the laws below carry it through
 

@@ -9,7 +9,7 @@ ghost use Rattle.model.specs.Chain.{bond_left, bond_right};
 ghost use Rattle.model.specs.Slots.{held, slot_of, slot_room, store_room};
 ghost use Rattle.model.specs.Environment.{identity_env, left_env, right_env};
 ghost use Rattle.model.specs.Statements.Soundness.{Sound};
-ghost use Rattle.environments.specs.Walk.{Walkable};
+ghost use Rattle.moves.specs.Ready.{Ready};
 
 use model::Chain;
 use walks::{Site, identity, left_across, right_across};
@@ -53,7 +53,7 @@ pub fn compute_left_env(
     from: usize,
     site: usize,
 ) -> usize
-    requires walkable { Walkable chain.now store.now work.old }
+    requires ready { Ready chain.now store.now work.old }
     requires from_bound { (from < chain.now.num_qubits) × (site ≤ chain.now.num_qubits) }
     ensures value { result ≡ (left_env from site (held chain.now store.now)).dim }
     ensures work_after { take (2 * (result * result)) work.new ≡ (left_env from site (held chain.now store.now)).entries }
@@ -77,7 +77,7 @@ pub fn compute_right_env(
     site: usize,
     to: usize,
 ) -> usize
-    requires walkable { Walkable chain.now store.now work.old }
+    requires ready { Ready chain.now store.now work.old }
     requires to_bound { to < chain.now.num_qubits }
     ensures value { result ≡ (right_env site to (held chain.now store.now)).dim }
     ensures work_after { take (2 * (result * result)) work.new ≡ (right_env site to (held chain.now store.now)).entries }

@@ -3,13 +3,12 @@ use Rattle.std.specs.Prelude.{◌≡◌, refl, Bool, cond, List, [], ◌∷◌, 
 use Rattle.std.proofs.Math.Path.{sym}
 use Rattle.std.proofs.Common.{ap, ◌∙◌, append_assoc, le_trans, take_all, add-zero, zero-add, add-suc, suc-add, length-append}
 use Rattle.std.proofs.Math.Bool.{true, false}
-use Rattle.std.proofs.Math.Numerals.{add-one}
 use native.Mathlib.Omega.{arith}
 use borrow.Author.Tests.{lt-ltb, le-ltb}
 use Rattle.std.specs.Float.{binary64}
 use Rattle.std.specs.Float.Ieee.{to_bits}
 use Rattle.std.proofs.Math.ListN.{length}
-use Rattle.std.proofs.Math.Seq.{take-append_seam, take-suc-set, drop-drop}
+use Rattle.std.proofs.Math.Seq.{take-append_seam, drop-drop}
 use Rattle.std.proofs.lemmas.List.Edits.{sets, sets-eq}
 use Rattle.complex.specs.Loops.{tabulate, length_tabulate}
 use Rattle.complex.specs.Parts.{part, put, length_part}
@@ -66,18 +65,6 @@ hex_high x h = rw (le-ltb x 10 h)
 pub length_hex : (x : ℕ) → length (hex_text x) ≡ 16
 unfolding hex_text
 length_hex x = length_tabulate 16 _
-
-pub tabulate_more : (k : ℕ) (f : ℕ → ℕ) → tabulate (k + 1) f ≡ tabulate k f ++ (f k ∷ [])
-unfolding tabulate
-tabulate_more k f = rw add-one
-
-pub tabulate_none : (f : ℕ → ℕ) → tabulate 0 f ≡ []
-unfolding tabulate
-tabulate_none f = refl
-
--- a list written from its front, one element more
-pub take_set : (k : ℕ) (l : List ℕ) (v : ℕ) → k < length l → take (k + 1) (set l k v) ≡ take k l ++ (v ∷ [])
-take_set k l v h = rw (add-one, take-suc-set)
 
 -- 16 digits put in their part of a text, however many turns k wrote them
 pub hex_put : (l digits : List ℕ) (i k x : ℕ) → i + 16 ≤ length l → length digits ≡ length (part i (i + 16) l) → length (part i (i + 16) l) ≤ k → take k digits ≡ tabulate k (hex_at x)

@@ -79,7 +79,7 @@ fn hex_digit(x: u64) -> u8
 }
 
 // The 16 hex digits of x, highest first.
-#[tactic(auto, using(crate::specs::Writing::tabulate_none, crate::specs::Writing::tabulate_more, crate::specs::Writing::take_set, crate::specs::Writing::hex_put, crate::specs::Writing::length_hex), unfolding(crate::specs::Text::hex_text))]
+#[tactic(auto, using(complex::specs::Loops::tabulate_none, complex::specs::Loops::tabulate_more, complex::specs::Loops::take_set, crate::specs::Writing::hex_put, crate::specs::Writing::length_hex), unfolding(crate::specs::Text::hex_text))]
 fn put_hex(out: &mut [u8], at: usize, x: u64) -> usize
     requires { at + 16 ≤ length out.old }
     ensures out_after { out.new ≡ sets out.old at (hex_text x) }

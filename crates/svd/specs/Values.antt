@@ -1,3 +1,4 @@
+-- The values of a matrix's columns, as they stand in the slice, and which goes before another.
 use Rattle.std.specs.Prelude.{ℕ, ◌+◌, Bool, cond, Float}
 use Rattle.std.specs.Float.Ieee.{le, lt}
 use Rattle.complex.specs.Numbers.{at}

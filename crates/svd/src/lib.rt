@@ -151,7 +151,7 @@ pub fn svd_jacobi(w: &mut [f64], high: usize, wide: usize, clamp: f64) -> Option
 }
 
 // The values from base on, as many as s has room for, into s in an order of their columns.
-#[tactic(auto, using(crate::proofs::Tabulated::tabulate_none, crate::proofs::Tabulated::tabulate_more, crate::proofs::Tabulated::take_set))]
+#[tactic(auto, using(complex::specs::Loops::tabulate_none, complex::specs::Loops::tabulate_more, complex::specs::Loops::take_set))]
 pub fn sorted_values(w: &[f64], base: usize, order: &[u8; 256], s: &mut [f64])
     requires { (length s.old ≤ 256) × (base + length s.old ≤ count w.now) × Below (length s.old) order.now }
     ensures { s.new ≡ tabulate (length s.old) (λ g. (at w.now (base + get_or order.now g 0)).re) }
