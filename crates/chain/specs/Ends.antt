@@ -35,7 +35,7 @@ turned f x k number e = let y = refused_by number k e in ap f y.0 ∙ either (eq
     either true g above = absurd (above (g tt))
     either false g above = refl
 
--- `proper` and `improper` are the tests of what the call is handed, as the call makes them
+-- `proper` is the test of what the call is handed, as the call makes it
 module _ (c : Chain) (store work : List Float) (k : ℕ) where
   pub gate_refused : (q0 q1 : ℕ) (gate : List (List Complex)) (proper : Bool) → proper ≡ all_finite gate → ◌≡◌ {A = Answer} (Err k) (refusal_of (first_of (not (sound c)) (short c store work) (outside c q0 || outside c q1 || eqb q0 q1) (not proper)))
       → after (Err k) (held c store) work ≡ gate_call (held c store) work q0 q1 gate
