@@ -3,6 +3,7 @@ pub mod AfterStates
 pub mod AsAt63
 pub mod BondShares
 pub mod CallsSound
+pub mod CallLabels
 pub mod ColumnLaws
 pub mod CutEnds
 pub mod CutLaws
@@ -19,6 +20,9 @@ pub mod GateProducts
 pub mod Gates
 pub mod JacobiLaws
 pub mod Labels
+pub mod LayerCalls
+pub mod LayerMachine
+pub mod LayerRuns
 pub mod MarkedHold
 pub mod MoveLaws
 pub mod NeverSix

@@ -3,6 +3,8 @@ use Rattle.std.specs.Prelude.{ℕ, zero, suc, Bool, cond, List, [], ◌∷◌, F
 use Rattle.std.specs.Float.{binary64}
 use Rattle.std.specs.Float.Ieee.{to_bits}
 use Rattle.model.specs.declared.Reason.{Reason}
+use Rattle.model.specs.declared.Layered.{Layered}
+use Rattle.model.specs.declared.Layered.TheVariants as layered
 use Rattle.model.specs.declared.Projected.{Projected}
 use Rattle.model.specs.declared.Projected.TheVariants as projected
 
@@ -28,21 +30,23 @@ refusal_of (suc k) = Err (suc k)
 
 -- ---- what they say
 
--- what an accepted call's answer holds besides
+-- what an accepted call's answer holds besides, and where a layer stopped: the pair, counted from 0
 pub data Value : Type 0 where
   none : Value
   weight : Float → Value
   nothing : Value
   bit : Bool → Value
   dimension : ℕ → Value
+  pair : ℕ → Value
 
--- the value as a number, as document 01 prints it: the bits of the weight, zeros for Nothing, the measured bit, the dimension
+-- the value as a number, as document 01 prints it: the bits of the weight, zeros for Nothing, the measured bit, the dimension; the pair
 abbrev pub bits_of : Value → ℕ
 bits_of none = 0
 bits_of (weight w) = to_bits binary64 w
 bits_of nothing = 0
 bits_of (bit b) = cond b 1 0
 bits_of (dimension n) = n
+bits_of (pair p) = p
 
 -- an answer as document 01 compares it
 pub record View : Type 0 where
@@ -62,6 +66,11 @@ view_answer (Err k) = refused k
 abbrev pub view_applied : Applied → View
 view_applied (Ok r) = accepted none
 view_applied (Err k) = refused k
+
+abbrev pub view_layered : Layered → View
+view_layered layered.Done = accepted none
+view_layered (layered.Refused k) = refused k
+view_layered (layered.Stopped k p) = record { number = k; value = pair p }
 
 abbrev pub view_projected : Projected → View
 view_projected (projected.Kept w) = accepted (weight w)

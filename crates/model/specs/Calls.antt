@@ -1,21 +1,25 @@
 -- The public calls, on all inputs: each is its refusals in their order around a run, with everything that it leaves.
-use Rattle.std.specs.Prelude.{ℕ, zero, suc, ◌*◌, Bool, false, not, ◌||◌, cond, List, ◌++◌, leb, ltb, eqb, length, drop, replicate, set, Float, Ok, Err}
+use Rattle.std.specs.Prelude.{ℕ, zero, suc, ◌*◌, ◌/◌, Bool, false, not, ◌&&◌, ◌||◌, cond, List, ◌++◌, leb, ltb, eqb, length, drop, replicate, set, Float, Ok, Err}
 use Rattle.std.specs.Float.{binary64}
 use Rattle.std.specs.Float.Ieee.{div, le}
 use Rattle.complex.specs.Complex.{zero_f}
+use Rattle.complex.specs.Loops.{every}
 use Rattle.complex.specs.declared.Complex.{Complex}
 use Rattle.gates.specs.Finite.{all_finite}
 use Rattle.gates.specs.Named.{matrix_of}
 use Rattle.gates.specs.declared.NamedGate.{NamedGate}
 use Rattle.model.specs.declared.Chain.{Chain}
 use Rattle.model.specs.declared.Reason.{Reason}
+use Rattle.model.specs.declared.Layered.{Layered}
+use Rattle.model.specs.declared.Layered.TheVariants as layered
 use Rattle.model.specs.declared.Projected.{Projected}
 use Rattle.model.specs.declared.Projected.TheVariants as projected
 use Rattle.model.specs.Answers.{Answer, Applied, Measured, Contracted}
 use Rattle.model.specs.Chain.{site_of, with_bits}
 use Rattle.model.specs.Slots.{State, held, store_room, work_room}
 use Rattle.model.specs.Cut.{Ran}
-use Rattle.model.specs.Routing.{gate_run, gate_reason}
+use Rattle.model.specs.Layers.{pair_count, first, second, gate_at, layer_of}
+use Rattle.model.specs.Routing.{gate_run, gate_reason, LayerRan, layer_run}
 use Rattle.model.specs.Born.{weight_at, total_at, drawn_at, projected_at, reset_at, readied}
 use Rattle.model.specs.Environment.{Env, left_env, right_env}
 use Rattle.model.specs.Sound.{share01, settings_fit, sound}
@@ -33,9 +37,12 @@ after a s work = record { answer = a; chain = s.chain; store = s.store; work = w
 
 -- ---- refusals
 
--- the number of the first ground that holds, tried in the order 3, 2, 4, 5; 0 where none does
+-- the number of the first ground that holds, tried in the order 3, 2, 4, 9, 5; 0 where none does. 9, a qubit named twice, is a ground of layers alone
+abbrev pub first_among : Bool → Bool → Bool → Bool → Bool → ℕ
+first_among unsound short outside twice improper = cond unsound 3 (cond short 2 (cond outside 4 (cond twice 9 (cond improper 5 0))))
+
 abbrev pub first_of : Bool → Bool → Bool → Bool → ℕ
-first_of unsound short outside improper = cond unsound 3 (cond short 2 (cond outside 4 (cond improper 5 0)))
+first_of unsound short outside improper = first_among unsound short outside false improper
 
 -- a store or a work slice too short for the chain
 abbrev pub short : Chain → List Float → List Float → Bool
@@ -67,9 +74,13 @@ start_call n d epsilon clamp exponent store =
 
 -- ---- a gate on the qubits q0 and q1, by matrix and by name
 
+-- not two of n qubits
+abbrev pub no_pair : ℕ → ℕ → ℕ → Bool
+no_pair n q0 q1 = leb n q0 || leb n q1 || eqb q0 q1
+
 abbrev pub gate_refusal : State → List Float → ℕ → ℕ → List (List Complex) → ℕ
 gate_refusal s work q0 q1 gate =
-    first_of (not (sound s.chain)) (short s.chain s.store work) (outside s.chain q0 || outside s.chain q1 || eqb q0 q1) (not (all_finite gate))
+    first_of (not (sound s.chain)) (short s.chain s.store work) (no_pair s.chain.num_qubits q0 q1) (not (all_finite gate))
 
 -- the reason where nothing refused the run, else its number
 abbrev pub applied_of : Reason → ℕ → Applied
@@ -86,6 +97,44 @@ gate_call s work q0 q1 gate =
 
 unfoldable pub named_gate_call : State → List Float → ℕ → ℕ → NamedGate → After Applied
 named_gate_call s work q0 q1 name = gate_call s work q0 q1 (matrix_of name)
+
+-- ---- a layer of pairs in one call (document 02, W1)
+
+-- so many bytes are two a pair, and so many numbers 32 a pair
+unfoldable pub lengths_agree : ℕ → ℕ → Bool
+lengths_agree bytes numbers = eqb bytes (2 * (bytes / 2)) && eqb numbers (32 * (bytes / 2))
+
+-- each pair is two of n qubits
+unfoldable pub pairs_fit : ℕ → List ℕ → Bool
+pairs_fit n pairs = every (pair_count pairs) (λ p. not (no_pair n (first pairs p) (second pairs p)))
+
+-- no pair names a qubit that one before it names
+abbrev pub meet : List ℕ → ℕ → ℕ → Bool
+meet pairs p r =
+    eqb (first pairs p) (first pairs r) || eqb (first pairs p) (second pairs r) || eqb (second pairs p) (first pairs r) || eqb (second pairs p) (second pairs r)
+
+unfoldable pub pairs_apart : List ℕ → Bool
+pairs_apart pairs = every (pair_count pairs) (λ p. every p (λ r. not (meet pairs r p)))
+
+-- the first n gates are of finite numbers
+unfoldable pub gates_finite : ℕ → List Float → Bool
+gates_finite n gates = every n (λ p. all_finite (gate_at gates p))
+
+-- each ground over the whole layer; `few`: the store or the work slice is too short
+abbrev pub layer_number : Chain → Bool → List ℕ → List Float → ℕ
+layer_number c few pairs gates =
+    first_among (not (sound c)) (few || not (lengths_agree (length pairs) (length gates))) (not (pairs_fit c.num_qubits pairs)) (not (pairs_apart pairs)) (not (gates_finite (pair_count pairs) gates))
+
+abbrev pub layer_refusal : State → List Float → List ℕ → List Float → ℕ
+layer_refusal s work pairs gates = layer_number s.chain (short s.chain s.store work) pairs gates
+
+abbrev pub layer_after : LayerRan → List Float → After Layered
+layer_after r work = after r.answer r.state work
+
+unfoldable pub layer_call : State → List Float → List ℕ → List Float → After Layered
+layer_call s work pairs gates =
+    let k = layer_refusal s work pairs gates in
+    cond (eqb k 0) (layer_after (layer_run 0 (layer_of pairs gates) s) (cleared s.chain work)) (after (layered.Refused k) s work)
 
 -- ---- projection of a qubit on an outcome
 

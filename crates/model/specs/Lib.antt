@@ -9,6 +9,7 @@ pub mod Truncation
 pub mod Pair
 pub mod Moves
 pub mod Cut
+pub mod Layers
 pub mod Routing
 pub mod Born
 pub mod Environment

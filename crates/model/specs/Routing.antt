@@ -7,9 +7,12 @@ use Rattle.gates.specs.Named.{matrix_of}
 use Rattle.gates.specs.declared.NamedGate.TheVariants.{Swap}
 use Rattle.model.specs.declared.Chain.{Chain}
 use Rattle.model.specs.declared.Reason.{Reason}
+use Rattle.model.specs.declared.Layered.{Layered}
+use Rattle.model.specs.declared.Layered.TheVariants as layered
 use Rattle.model.specs.Chain.{site_of, qubit_at, with_labels}
 use Rattle.model.specs.Slots.{State, held}
 use Rattle.model.specs.Cut.{Ran, ran, adjacent, adjacent_reason}
+use Rattle.model.specs.Layers.{Placed}
 
 -- ---- labels
 
@@ -77,3 +80,25 @@ unfoldable pub gate_reason : List (List Complex) → ℕ → ℕ → State → R
 gate_reason gate q0 q1 s =
     let r = route_of (site_of s.chain q0) (site_of s.chain q1) in
     adjacent_reason (turned gate r) r.near (run_steps (map swap_step r.swaps) s).state
+
+-- ---- a layer: the gates in turn (document 02, W1)
+
+pub record LayerRan : Type 0 where
+  pub answer : Layered
+  pub state : State
+
+abbrev pub layer_ran : Layered → State → LayerRan
+layer_ran a s = record { answer = a; state = s }
+
+-- a gate of the layer by itself
+abbrev pub placed_run : Placed → State → Ran
+placed_run x s = gate_run x.gate x.q0 x.q1 s
+
+-- what follows the run of pair p: the rest, unless the gate was refused, which stops the layer there
+abbrev pub onward : ℕ → Ran → (State → LayerRan) → LayerRan
+onward p r rest = cond (eqb r.refused 0) (rest r.state) (layer_ran (layered.Stopped r.refused p) r.state)
+
+-- the gates in turn, the first of them that of pair p, up to the first that is refused
+unfoldable pub layer_run : ℕ → List Placed → State → LayerRan
+layer_run p [] s = layer_ran layered.Done s
+layer_run p (x ∷ xs) s = onward p (placed_run x s) (layer_run (p + 1) xs)

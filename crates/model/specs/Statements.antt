@@ -5,6 +5,7 @@ pub mod Pinned
 pub mod Demand1
 pub mod Demand1Sound
 pub mod Demand1Cuts
+pub mod Layers
 pub mod Demand3
 pub mod Product
 pub mod ZeroSigns

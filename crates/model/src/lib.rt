@@ -83,6 +83,15 @@ pub type Measured = Result<bool, u8>;
 // What an environment walk answers: the dimension of the environment that it wrote.
 pub type Contracted = Result<usize, u8>;
 
+// What a layer of pairs answers: all done; refused before anything is written; or stopped by a number at a pair, counted
+// from 0. An enum of its own, as the next one is: a refusal of the whole and a stop on the way leave different things.
+#[derive(Clone, Copy)]
+pub enum Layered {
+    Done,
+    Refused(u8),
+    Stopped(u8, usize),
+}
+
 // What a projection answers: the weight of the kept branch, or nothing where the branch has none. An enum of its own and
 // not a Result of an Option: the three cases are the form that the buyer names.
 #[derive(Clone, Copy)]
@@ -102,6 +111,8 @@ pub struct After<A> {
 pub type Start = After<Answer>;
 
 pub type Gated = After<Applied>;
+
+pub type LayerRun = After<Layered>;
 
 pub type Projection = After<Projected>;
 

@@ -28,7 +28,7 @@ use Rattle.model.specs.Statements.Soundness.{Sound}
 use Rattle.model.proofs.Laws.MoveLaws.{Apart, apart_at, apart_then}
 use Rattle.model.proofs.Laws.RunLaws.{Room, Reach, Within, within_room, readied_within, route_spans, Unmoved, run_steps_within, run_steps_unmoved, projected_at_apart, reset_at_apart}
 use Rattle.model.proofs.Laws.Labels.{sound_maps, sites_apart}
-use Rattle.model.proofs.Laws.Refusals.{project_passes, measure_passes, reset_passes, above_zero, early_late, applied_number, decides_short, first_of_least, gate_least, project_accepted}
+use Rattle.model.proofs.Laws.Refusals.{project_passes, measure_passes, reset_passes, applied_number, decides_short, project_accepted, first_of_early, gate_early}
 use Rattle.model.proofs.Laws.SoundKept.{AcceptedGate, gate_accepted}
 use Rattle.model.proofs.Laws.CutEnds.{Attempted, attempted, above, nan, again, stored, stepped_number}
 use Rattle.model.proofs.Laws.Tests.{by_test, decides_false, either_way}
@@ -39,8 +39,8 @@ attempt_late : (gate : List (List Complex)) (k : ℕ) (s : State) → Late (atte
 attempt_late gate k s = cases (attempted gate k s)
   where
     cases : Attempted gate k s (attempt gate k s) → Late (attempt gate k s).refused
-    cases (above a e) = rw e (inr (omega arith))
-    cases (nan a n e) = rw e (inr (omega arith))
+    cases (above a e) = rw e (inr (inl refl))
+    cases (nan a n e) = rw e (inr (inr refl))
     cases (again a m e) = rw e (inl refl)
     cases (stored a n m e) = rw e (inl refl)
 
@@ -67,12 +67,12 @@ module _ (c : Chain) (number : ℕ) (work : List Float) where
 
   -- refused before it ran, a call leaves it
   pub work_kept : Early number → WorkLeft c.max_bond_dim number work work
-  work_kept e = record { unaltered = λ x. refl; cleared = λ l. absurd (early_late e l); past = refl; long = refl }
+  work_kept e = record { unaltered = λ x. refl; cleared = λ l. absurd (e l); past = refl; long = refl }
 
   pub work_cleared : Late number → need ≤ length work → WorkLeft c.max_bond_dim number work (cleared c work)
   unfolding cleared
   work_cleared l room = record {
-    unaltered = λ e. absurd (early_late e l);
+    unaltered = λ e. absurd (e l);
     cleared = λ z. take_at (replicate need zero_f) _ need (length-replicate need zero_f);
     past = drop_at (replicate need zero_f) _ need (length-replicate need zero_f);
     long = simp (length-append, length-replicate, length-drop) (omega arith);
@@ -112,28 +112,28 @@ module _ {A : Type 0} (view : A → View) (s : State) (work : List Float) (near 
   run_leaves : (a : A) (t : State) → Late (view a).number → work_room s.chain.max_bond_dim ≤ length work → SitesApart t → Leaves s work near far (view a).number (after a t (cleared s.chain work))
   run_leaves a t l room x = record {
     work_left = work_cleared s.chain (view a).number work l room;
-    unaltered = λ e. absurd (early_late e l);
+    unaltered = λ e. absurd (e l);
     store_left = apart_left x;
   }
 
-  pub call_leaves : (k : ℕ) (a back : A) (t : State) → k ≤ 5 → (view back).number ≡ k → Late (view a).number
-      → (eqb k 0 ≡ true → (work_room s.chain.max_bond_dim ≤ length work) × SitesApart t)
+  pub call_leaves : (k : ℕ) (a back : A) (t : State) → (eqb k 0 ≡ false → Early k) → (view back).number ≡ k
+      → (eqb k 0 ≡ true → Late (view a).number × (work_room s.chain.max_bond_dim ≤ length work) × SitesApart t)
       → (let z = cond (eqb k 0) (after a t (cleared s.chain work)) (after back s work) in Leaves s work near far (view z.answer).number z)
-  call_leaves k a back t small e l accepted =
+  call_leaves k a back t early e accepted =
       by_test (λ (z : After A). Leaves s work near far (view z.answer).number z) (eqb k 0) _ _
-      (λ q. let y = accepted q in run_leaves a t l y.0 y.1) (λ q. turned_leaves back (rw e (above_zero k q, small)))
+      (λ q. let y = accepted q in run_leaves a t y.0 y.1 y.2) (λ q. turned_leaves back (rw e (early q)))
 
 -- ---- the range of a call
 
-own_reach : (c : Option ℕ) (n near far : ℕ) → near ≤ far → Reach n (lowest c near) (highest c n far) c
-own_reach None n near far l = (refl, omega arith)
-own_reach (Some k) n near far l = (omega arith, omega arith)
+pub own_reach : (c : Option ℕ) (n near far : ℕ) → Reach n (lowest c near) (highest c n far) c
+own_reach None n near far = (refl, omega arith)
+own_reach (Some k) n near far = (omega arith, omega arith)
 
-lowest_near : (c : Option ℕ) (near : ℕ) → lowest c near ≤ near
+pub lowest_near : (c : Option ℕ) (near : ℕ) → lowest c near ≤ near
 lowest_near None near = omega arith
 lowest_near (Some k) near = omega arith
 
-far_highest : (c : Option ℕ) (n far : ℕ) → far < n → far ≤ highest c n far
+pub far_highest : (c : Option ℕ) (n far : ℕ) → far < n → far ≤ highest c n far
 far_highest None n far l = omega arith
 far_highest (Some k) n far l = omega arith
 
@@ -153,7 +153,7 @@ module _ (s : State) (work : List Float) (q : ℕ) where
     pub ready : Within (lowest s.chain.center k) (highest s.chain.center s.chain.num_qubits k) s t
     ready =
         let inside : k < s.chain.num_qubits = h.sites.below q below in
-        readied_within s h room _ _ k (lowest_near s.chain.center k) (own_reach s.chain.center s.chain.num_qubits k k (omega arith)) inside (far_highest s.chain.center s.chain.num_qubits k (omega arith))
+        readied_within s h room _ _ k (lowest_near s.chain.center k) (own_reach s.chain.center s.chain.num_qubits k k) inside (far_highest s.chain.center s.chain.num_qubits k (omega arith))
 
     -- the centre move, then a site rewritten
     then_rewritten : (u : State) → Apart t.chain.num_qubits t.chain.max_bond_dim k k t.store u.store → Rewrites u
@@ -177,8 +177,8 @@ module _ (s : State) (work : List Float) where
   abbrev tests : Bool → Bool → ℕ
   tests four five = first_of (not (sound s.chain)) (short s.chain s.store work) four five
 
-  small : (four five : Bool) → tests four five ≤ 5
-  small four five = first_of_least (not (sound s.chain)) (short s.chain s.store work) four five
+  early : (four five : Bool) → eqb (tests four five) 0 ≡ false → Early (tests four five)
+  early four five = first_of_early (not (sound s.chain)) (short s.chain s.store work) four five
 
   pub project_leaves : (q : ℕ) (o : Bool) → (let a = project_call s work q o in let k = site_of s.chain q in Leaves s work k k (view_projected a.answer).number a)
   unfolding project_call
@@ -186,11 +186,11 @@ module _ (s : State) (work : List Float) where
       let k = site_of s.chain q in
       let t = readied k s in
       call_leaves view_projected s work k k (project_refusal s work q) (project_answer k o t) (projected.Refused (project_refusal s work q)) (projected_at k o t)
-      (small (outside s.chain q) false) refl (inl (project_accepted k o t))
+      (early (outside s.chain q) false) refl
       (λ e.
       let a = project_passes s work q e in
       let l = not_short s work a.long in
-      (l.scratch, projected_rewrites s work q a.sound l.amplitudes a.below o))
+      (inl (project_accepted k o t), l.scratch, projected_rewrites s work q a.sound l.amplitudes a.below o))
 
   pub measure_leaves : (q flag : ℕ) (draw : Float) → (let a = measure_call s work q flag draw in let k = site_of s.chain q in Leaves s work k k (view_measured a.answer).number a)
   unfolding measure_call
@@ -199,11 +199,11 @@ module _ (s : State) (work : List Float) where
       let t = readied k s in
       let b = drawn_at k draw t in
       call_leaves view_measured s work k k (measure_refusal s work q flag draw) (Ok b) (Err (measure_refusal s work q flag draw)) (flagged flag b (projected_at k b t))
-      (small (outside s.chain q || leb 64 flag) (not (share01 draw))) refl (inl refl)
+      (early (outside s.chain q || leb 64 flag) (not (share01 draw))) refl
       (λ e.
       let a = measure_passes s work q flag draw e in
       let l = not_short s work a.long in
-      (l.scratch, projected_rewrites s work q a.sound l.amplitudes a.below b))
+      (inl refl, l.scratch, projected_rewrites s work q a.sound l.amplitudes a.below b))
 
   pub reset_leaves : (q : ℕ) (draw : Float) → (let a = reset_call s work q draw in let k = site_of s.chain q in Leaves s work k k (view_answer a.answer).number a)
   unfolding reset_call
@@ -212,11 +212,11 @@ module _ (s : State) (work : List Float) where
       let t = readied k s in
       let b = drawn_at k draw t in
       call_leaves view_answer s work k k (reset_refusal s work q draw) (Ok tt) (Err (reset_refusal s work q draw)) (reset_at k b t)
-      (small (outside s.chain q) (not (share01 draw))) refl (inl refl)
+      (early (outside s.chain q) (not (share01 draw))) refl
       (λ e.
       let a = reset_passes s work q draw e in
       let l = not_short s work a.long in
-      (l.scratch, reset_rewrites s work q a.sound l.amplitudes a.below b))
+      (inl refl, l.scratch, reset_rewrites s work q a.sound l.amplitudes a.below b))
 
   module _ (q0 q1 : ℕ) where
     abbrev p : ℕ
@@ -236,10 +236,9 @@ module _ (s : State) (work : List Float) where
       unfolding gate_run
       gate_rewrites =
           let most : max p q < s.chain.num_qubits = omega (arith, x.sound.sites.below q0 x.first, x.sound.sites.below q1 x.second) in
-          let order : min p q ≤ max p q = omega arith in
           run_steps_within _ _ (gate_steps s q0 q1 gate) s x.sound room x.inside
           (route_spans _ _ gate p q two (lowest_near s.chain.center (min p q)) (far_highest s.chain.center s.chain.num_qubits (max p q) most))
-          (own_reach s.chain.center s.chain.num_qubits (min p q) (max p q) order)
+          (own_reach s.chain.center s.chain.num_qubits (min p q) (max p q))
 
       run_unmoved : Unmoved (min p q) (max p q) s (gate_run gate q0 q1 s).state
       unfolding gate_run
@@ -253,8 +252,8 @@ module _ (s : State) (work : List Float) where
     gate_leaves gate =
         let r = gate_run gate q0 q1 s in
         call_leaves view_applied s work (min p q) (max p q) (gate_refusal s work q0 q1 gate) (applied_of (gate_reason gate q0 q1 s) r.refused) (Err (gate_refusal s work q0 q1 gate)) r.state
-        (gate_least s work q0 q1 gate) refl (rw (applied_number (gate_reason gate q0 q1 s) r.refused) (gate_run_late gate q0 q1 s))
-        (λ e. let x = gate_accepted s work q0 q1 gate e in ((not_short s work x.long).scratch, (gate_rewrites gate x).apart))
+        (gate_early s work q0 q1 gate) refl
+        (λ e. let x = gate_accepted s work q0 q1 gate e in (rw (applied_number (gate_reason gate q0 q1 s) r.refused) (gate_run_late gate q0 q1 s), (not_short s work x.long).scratch, (gate_rewrites gate x).apart))
 
     pub gate_unmoved : (gate : List (List Complex)) →
         (let a = gate_call s work q0 q1 gate in a.chain.center ≡ None → StoreLeft s.chain.num_qubits s.chain.max_bond_dim (min p q) (max p q) s.store a.store)

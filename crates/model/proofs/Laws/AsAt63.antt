@@ -4,7 +4,7 @@ use Rattle.std.proofs.Common.{arith, sym, ap₂, ◌∙◌}
 use Rattle.std.specs.Prelude.{◌≡◌, Bool, true, false, not, ◌&&◌, cond, leb, ltb, eqb, length, Float, Option, None, Some, Ok, Err}
 use Rattle.std.proofs.Math.Path.{refl, ap}
 use mathlib.Core.List.{List, [], ◌∷◌, map}
-use borrow.Author.Tests.{le-leb, le-ltb}
+use borrow.Author.Tests.{le-leb, le-ltb, eq-eqb, ne_eqb}
 use Rattle.std.specs.Float.Ieee.{le}
 use Rattle.complex.specs.declared.Complex.{Complex}
 use Rattle.gates.specs.Named.{matrix_of}
@@ -16,19 +16,21 @@ use Rattle.model.specs.Svd.{values, raw_value, any_nan}
 use Rattle.model.specs.Truncation.{resolvable}
 use Rattle.model.specs.Moves.{step_right, step_left, walk_right, walk_left, moved, established, centered_on, Prepared, prepared, prepared_on}
 use Rattle.model.specs.Cut.{keeps_centre, prepared_for, pair_of, rank_of, reason_in, Tried, tried, cut_with, attempt, Ran, ran, adjacent, attempt_reason, adjacent_reason}
-use Rattle.model.specs.Routing.{Step, swap_step, gate_step, route_of, turned, stepped, run_steps, gate_run, gate_reason}
+use Rattle.model.specs.Layers.{Placed, layer_of}
+use Rattle.model.specs.Routing.{Step, swap_step, gate_step, route_of, turned, stepped, run_steps, gate_run, gate_reason, layer_ran, placed_run, layer_run}
 use Rattle.model.specs.Born.{weight_at, unless_clamped, projected_at, reset_at, readied}
 use Rattle.model.specs.Environment.{left_env, right_env}
 use Rattle.model.specs.Sound.{settings_fit, bonds_fit, sized, sound}
 use Rattle.model.specs.Start.{fresh_chain}
-use Rattle.model.specs.Answers.{View, view_answer, view_applied, view_projected, view_measured}
-use Rattle.model.specs.Calls.{After, after, cleared, Started, start_call, gate_refusal, gate_call, named_gate_call, project_refusal, project_call, measure_refusal, measure_call, reset_refusal, reset_call, left_environment_call, right_environment_call}
-use Rattle.model.specs.Lists.{Call, gate, named, project, measure, reset, left, answer_of, state_of, answers_of, final_state}
+use Rattle.model.specs.Answers.{View, view_answer, view_applied, view_projected, view_measured, view_layered}
+use Rattle.model.specs.Calls.{After, after, cleared, Started, start_call, gate_refusal, gate_call, named_gate_call, project_refusal, project_call, measure_refusal, measure_call, reset_refusal, reset_call, left_environment_call, right_environment_call, layer_refusal, layer_call}
+use Rattle.model.specs.Lists.{Call, gate, named, project, measure, reset, left, answer_of, state_of, answers_of, final_state, layer}
 use Rattle.model.specs.Statements.Table.{gate_steps}
 use Rattle.model.specs.Statements.Soundness.{Sound}
 use Rattle.model.specs.Statements.Uncapped.{with_exponent, under, AsAt63}
 use Rattle.model.proofs.Laws.MoveLaws.{last_site, established_narrowed}
-use Rattle.model.proofs.Laws.SoundKept.{narrowed_keeps, attempt_keeps, Inside, inside_first, inside_last, stepped_keeps, run_steps_keeps, gate_accepted}
+use Rattle.model.proofs.Laws.SoundKept.{narrowed_keeps, attempt_keeps, Inside, inside_first, inside_last, stepped_keeps, run_steps_keeps, gate_accepted, gate_inside}
+use Rattle.model.proofs.Laws.LayerRuns.{Fits, AllFit, layer_accepted, layer_fits, placed_run_keeps, layer_by}
 use Rattle.model.proofs.Laws.StartLaws.{start_accepted}
 use Rattle.model.proofs.Laws.WorkspaceEnough.{workspace_enough}
 
@@ -161,6 +163,18 @@ module _ (e : ℕ) where
         (adjacent_reason_under (turned g r) r.near (run_steps swaps s).state y.sound (omega (arith, y.exponent))
         (rw y.qubits (inside_last s.chain.num_qubits swaps (gate_step (turned g r) r.near) inside)))
 
+    -- the gates of a layer in turn
+    layer_run_under : (p : ℕ) (xs : List Placed) (s : State) → Sound s.chain → AllFit s.chain.num_qubits xs → 63 ≤ s.chain.workspace_exponent
+        → layer_run p xs (under e s) ≡ layer_ran (layer_run p xs s).answer (under e (layer_run p xs s).state)
+    unfolding layer_run gate_run
+    layer_run_under =
+        layer_by (λ p xs s r. 63 ≤ s.chain.workspace_exponent → layer_run p xs (under e s) ≡ layer_ran r.answer (under e r.state)) (λ p s h wide'. refl)
+        (λ p x xs s h f z r k wide'. rw (one x s h f wide', eq-eqb (placed_run x s).refused 0 z) (k (rw (placed_run_keeps x s h f).exponent wide')))
+        (λ p x xs s h f z wide'. rw (one x s h f wide', ne_eqb (placed_run x s).refused 0 z))
+      where
+        one : (x : Placed) (s : State) → Sound s.chain → Fits s.chain.num_qubits x → 63 ≤ s.chain.workspace_exponent → placed_run x (under e s) ≡ ran_under (placed_run x s)
+        one x s h f wide' = run_steps_under (gate_steps s x.q0 x.q1 x.gate) s h wide' (gate_inside x.gate x.q0 x.q1 s h f.first f.second f.two)
+
   -- ---- the calls
 
   clamped_under : (k : ℕ) (o : Bool) (site : List Float) (s : State) → unless_clamped k o site (under e s) ≡ under e (unless_clamped k o site s)
@@ -177,6 +191,14 @@ module _ (e : ℕ) where
     unfolding gate_call gate_run cleared
     gate_under work q0 q1 g = rw same (mapped after_under (eqb (gate_refusal s work q0 q1 g) 0) (λ t. let x = gate_accepted s work q0 q1 g t in rw (reason_under wide g q0 q1 s x.sound wide' x.inside, run_steps_under wide (gate_steps s q0 q1 g) s x.sound wide' x.inside)) refl)
 
+    layer_under : (work : List Float) (pairs : List ℕ) (gates : List Float) → layer_call (under e s) work pairs gates ≡ after_under (layer_call s work pairs gates)
+    unfolding layer_call cleared
+    layer_under work pairs gates =
+        rw same
+        (mapped after_under (eqb (layer_refusal s work pairs gates) 0) (λ t.
+        let x = layer_accepted s work pairs gates t in
+        rw (layer_run_under wide 0 (layer_of pairs gates) s x.sound (layer_fits s work pairs gates x) wide')) refl)
+
     -- what a list of calls takes from one
     seen : {A : Type 0} (view : A → View) (call : State → After A) → call (under e s) ≡ after_under (call s)
         → (view (call (under e s)).answer ≡ view (call s).answer) × (left (call (under e s)) ≡ under e (left (call s)))
@@ -186,6 +208,7 @@ module _ (e : ℕ) where
     unfolding named_gate_call project_call projected_at measure_call reset_call reset_at cleared
     call_under (gate q0 q1 g work) = seen view_applied (λ t. gate_call t work q0 q1 g) (gate_under work q0 q1 g)
     call_under (named q0 q1 name work) = seen view_applied (λ t. gate_call t work q0 q1 (matrix_of name)) (gate_under work q0 q1 (matrix_of name))
+    call_under (layer pairs gates work) = seen view_layered (λ t. layer_call t work pairs gates) (layer_under work pairs gates)
     call_under (project q o work) = seen view_projected (λ t. project_call t work q o) (rw same (mapped after_under (eqb (project_refusal s work q) 0) (λ t. rw (readied_under, clamped_under)) refl))
     call_under (measure q flag draw work) = seen view_measured (λ t. measure_call t work q flag draw) (rw same (mapped after_under (eqb (measure_refusal s work q flag draw) 0) (λ t. rw (readied_under, clamped_under)) refl))
     call_under (reset q draw work) = seen view_answer (λ t. reset_call t work q draw) (rw same (mapped after_under (eqb (reset_refusal s work q draw) 0) (λ t. rw (readied_under, clamped_under)) refl))

@@ -8,10 +8,11 @@ use Rattle.model.specs.Moves.{established}
 use Rattle.model.specs.Cut.{attempt, adjacent}
 use Rattle.model.specs.Sound.{sound}
 use Rattle.model.specs.Calls.{start_call}
-use Rattle.model.specs.Lists.{Call, gate, named, project, measure, reset, state_of, final_state}
+use Rattle.model.specs.Lists.{Call, gate, named, layer, project, measure, reset, state_of, final_state}
 use Rattle.model.specs.Statements.Soundness.{Sound}
 use Rattle.model.proofs.Laws.SoundFacts.{sound_facts, facts_sound}
 use Rattle.model.proofs.Laws.SoundKept.{Keeps, keeps_none, keeps_then, gate_call_keeps, named_gate_call_keeps, project_call_keeps, measure_call_keeps, reset_call_keeps}
+use Rattle.model.proofs.Laws.LayerRuns.{layer_call_keeps}
 use Rattle.model.proofs.Laws.StartLaws.{start_sound}
 use Rattle.model.proofs.Laws.CutEnds.{second_not_6, untouched_by_6}
 use Rattle.model.specs.Statements.Demand1Sound.{Orderly}
@@ -22,6 +23,7 @@ use Rattle.model.specs.Statements.Demand1Sound.{Orderly}
 pub call_keeps : (c : Call) (s : State) → T (sound s.chain) → Keeps s.chain (state_of c s).chain
 call_keeps (gate q0 q1 g work) s h = gate_call_keeps s work (sound_facts s.chain h) q0 q1 g
 call_keeps (named q0 q1 name work) s h = named_gate_call_keeps s work (sound_facts s.chain h) q0 q1 name
+call_keeps (layer pairs gates work) s h = layer_call_keeps s work (sound_facts s.chain h) pairs gates
 call_keeps (project q o work) s h = project_call_keeps s work (sound_facts s.chain h) q o
 call_keeps (measure q flag draw work) s h = measure_call_keeps s work (sound_facts s.chain h) q flag draw
 call_keeps (reset q draw work) s h = reset_call_keeps s work (sound_facts s.chain h) q draw

@@ -1,14 +1,15 @@
 -- A figure to which cuts add, as the discarded weight, is the shares of the stored cuts that count for it, added from the left in the order of the cuts. Other calls leave it, and the labels, as they were.
 -- For the chain's weight it is the proof of (e); `Laws/BondShares` has it for each bond's.
 use Rattle.std.specs.Prelude.{ℕ, ◌+◌, ◌<◌, ◌≡◌, refl, Bool, true, false, cond, eqb, length, Float}
-use Rattle.std.proofs.Common.{arith, sym, ◌∙◌, subst, inl, inr, le-leb}
+use Rattle.std.proofs.Common.{arith, sym, ◌∙◌, subst, eq-eqb, ne_eqb}
 use Rattle.std.proofs.Math.Path.{ap}
 use mathlib.Core.List.{List, [], ◌∷◌, ◌++◌, map, foldl, map-append}
-use Rattle.std.proofs.lemmas.Bool.{eqb-false, lt-leb}
+use Rattle.std.proofs.lemmas.Bool.{eqb-false}
 use Rattle.std.specs.Float.{binary64}
 use Rattle.std.specs.Float.Ieee.{add}
 use Rattle.complex.specs.declared.Complex.{Complex}
 use Rattle.gates.specs.Named.{matrix_of}
+use Rattle.model.specs.declared.Layered.{Layered}
 use Rattle.model.specs.declared.Projected.{Projected}
 use Rattle.model.specs.declared.Chain.{Chain}
 use Rattle.model.specs.Chain.{site_of, labels_of, CutTotals, cut_totals_of}
@@ -16,21 +17,23 @@ use Rattle.model.specs.Slots.{State}
 use Rattle.model.specs.Svd.{values}
 use Rattle.model.specs.Truncation.{rank, share, recorded}
 use Rattle.model.specs.Cut.{rank_of, cut_recorded, Ran, ran, adjacent}
-use Rattle.model.specs.Routing.{Step, relabelled, follow, stepped, run_steps, gate_run, gate_reason}
+use Rattle.model.specs.Layers.{Placed, layer_of}
+use Rattle.model.specs.Routing.{Step, relabelled, follow, stepped, run_steps, gate_run, gate_reason, placed_run, layer_run}
 use Rattle.model.specs.Born.{drawn_at, readied}
-use Rattle.model.specs.Answers.{Answer, Applied, Measured, view_applied}
-use Rattle.model.specs.Calls.{After, gate_refusal, gate_call, named_gate_call, project_refusal, project_call, measure_refusal, measure_call, reset_refusal, reset_call}
-use Rattle.model.specs.Lists.{Call, gate, named, project, measure, reset, left, state_of, final_state}
+use Rattle.model.specs.Answers.{Answer, Applied, Measured, view_applied, view_layered}
+use Rattle.model.specs.Calls.{After, gate_refusal, gate_call, named_gate_call, project_refusal, project_call, measure_refusal, measure_call, reset_refusal, reset_call, layer_refusal, layer_call}
+use Rattle.model.specs.Lists.{Call, gate, named, project, measure, reset, left, state_of, final_state, layer}
 use Rattle.model.specs.Statements.Table.{gate_steps}
 use Rattle.model.specs.Statements.Demand1.{Early, Late}
 use Rattle.model.specs.Statements.Pinned.{last_in}
-use Rattle.model.specs.Statements.Demand1Cuts.{Dropped, dropped_at, cut_svd, cut_share, shares_of, unless_early, call_shares, list_shares, of_chain, WeightOfCall, WeightOfList}
+use Rattle.model.specs.Statements.Demand1Cuts.{Dropped, dropped_at, cut_svd, cut_share, shares_of, unless_early, call_shares, list_shares, of_chain, WeightOfCall, WeightOfList, layer_shares}
 use Rattle.model.specs.Statements.Soundness.{Sound}
-use Rattle.model.proofs.Laws.Refusals.{AcceptedReading, project_passes, measure_passes, reset_passes, above_zero, applied_number, gate_least}
+use Rattle.model.proofs.Laws.Refusals.{AcceptedReading, project_passes, measure_passes, reset_passes, applied_number, decides_late, gate_early}
 use Rattle.model.proofs.Laws.AfterStates.{gate_run_late}
-use Rattle.model.proofs.Laws.SoundKept.{gate_accepted, Inside, stepped_keeps, readied_narrowed, projected_at_chain, reset_at_chain, relabelled_by}
+use Rattle.model.proofs.Laws.SoundKept.{gate_accepted, Inside, stepped_keeps, readied_narrowed, projected_at_chain, reset_at_chain, relabelled_by, gate_inside}
+use Rattle.model.proofs.Laws.LayerRuns.{Fits, AllFit, layer_early, layer_accepted, layer_fits, layer_by, layer_run_ended, ended_late}
 use Rattle.model.proofs.Laws.CutEnds.{cut_at, CutEnds, above, nan, stored, adjacent_ends, last_narrowed, refused_narrowed}
-use Rattle.model.proofs.Laws.Tests.{by_test, either_way}
+use Rattle.model.proofs.Laws.Tests.{by_test, either_way, test_true, test_false}
 
 -- ---- shares added from the left
 
@@ -140,7 +143,7 @@ run_tallied y (x ∷ xs) s h inside =
         ∙ sym (counted_append y (tallied y s) (step_shares x s) (shares_of xs (stepped x s).state))
     pick false e z = rw e at (step_tallied y x s h inside.0) ∙ counted_none y (tallied y s)
 
--- ---- the calls that are no gates: they change the bonds, the centre and the flags at most
+-- ---- the calls that make no gate: they change the bonds, the centre and the flags at most
 
 pub record Reads (c c' : Chain) : Type 0 where
   pub labels : labels_of c' ≡ labels_of c
@@ -186,11 +189,10 @@ module _ (s : State) (work : List Float) where
 -- ---- a call, and a list of calls
 
 unless_early_lem : (number : ℕ) (shares : List Dropped) → Early number → unless_early number shares ≡ []
-unless_early_lem number shares e = rw (le-leb 1 number e.0, le-leb number 5 e.1)
+unless_early_lem number shares e = rw (test_false (decides_late number) e)
 
 unless_late : (number : ℕ) (shares : List Dropped) → Late number → unless_early number shares ≡ shares
-unless_late number shares (inl z) = rw z
-unless_late number shares (inr l) = rw (le-leb 1 number (omega arith), lt-leb number 5 l)
+unless_late number shares l = rw (test_true (decides_late number) l)
 
 gate_tallied : (y : Tally) (s : State) (work : List Float) (q0 q1 : ℕ) (g : List (List Complex))
     → (let a = gate_call s work q0 q1 g in tallied y (left a) ≡ counted y (tallied y s) (unless_early (view_applied a.answer).number (shares_of (gate_steps s q0 q1 g) s)))
@@ -202,12 +204,44 @@ gate_tallied y s work q0 q1 g =
     let n = (gate_run g q0 q1 s).refused in
     let late = ap (λ (m : ℕ). unless_early m shares) (applied_number (gate_reason g q0 q1 s) n) ∙ unless_late n shares (gate_run_late g q0 q1 s) in
     run_tallied y (gate_steps s q0 q1 g) s x.sound x.inside ∙ ap (counted y (tallied y s)) (sym late))
-    (λ e. counted_none y (tallied y s) ∙ ap (counted y (tallied y s)) (sym (unless_early_lem (gate_refusal s work q0 q1 g) shares (above_zero (gate_refusal s work q0 q1 g) e, gate_least s work q0 q1 g))))
+    (λ e. counted_none y (tallied y s) ∙ ap (counted y (tallied y s)) (sym (unless_early_lem (gate_refusal s work q0 q1 g) shares (gate_early s work q0 q1 g e))))
   where
     shares : List Dropped
     shares = shares_of (gate_steps s q0 q1 g) s
 
--- a call that is no gate leaves the totals
+-- the gates of a layer in turn, and a layer
+layer_run_tallied : (y : Tally) (p : ℕ) (xs : List Placed) (s : State) → Sound s.chain → AllFit s.chain.num_qubits xs
+    → tallied y (layer_run p xs s).state ≡ counted y (tallied y s) (layer_shares xs s)
+unfolding layer_shares gate_run
+layer_run_tallied y =
+    layer_by (λ p xs s r. tallied y r.state ≡ counted y (tallied y s) (layer_shares xs s)) (λ p s h. counted_none y (tallied y s))
+    (λ p x xs s h f e r k.
+    let t = (placed_run x s).state in
+    k ∙ ap (λ (w : Float). counted y w (layer_shares xs t)) (one x s h f) ∙ rw (eq-eqb (placed_run x s).refused 0 e) (sym (counted_append y (tallied y s) (shares x s) (layer_shares xs t))))
+    (λ p x xs s h f e. one x s h f ∙ counted_none y _ ∙ rw (ne_eqb (placed_run x s).refused 0 e) (sym (counted_append y (tallied y s) (shares x s) [])))
+  where
+    shares : Placed → State → List Dropped
+    shares x s = shares_of (gate_steps s x.q0 x.q1 x.gate) s
+
+    one : (x : Placed) (s : State) → Sound s.chain → Fits s.chain.num_qubits x → tallied y (placed_run x s).state ≡ counted y (tallied y s) (shares x s)
+    one x s h f = run_tallied y (gate_steps s x.q0 x.q1 x.gate) s h (gate_inside x.gate x.q0 x.q1 s h f.first f.second f.two)
+
+layer_tallied : (y : Tally) (s : State) (work : List Float) (pairs : List ℕ) (gates : List Float)
+    → (let a = layer_call s work pairs gates in tallied y (left a) ≡ counted y (tallied y s) (unless_early (view_layered a.answer).number (layer_shares (layer_of pairs gates) s)))
+unfolding layer_call
+layer_tallied y s work pairs gates =
+    by_test (λ (a : After Layered). tallied y (left a) ≡ counted y (tallied y s) (unless_early (view_layered a.answer).number shares)) (eqb (layer_refusal s work pairs gates) 0) _ _
+    (λ e.
+    let x = layer_accepted s work pairs gates e in
+    let fits = layer_fits s work pairs gates x in
+    let late = ended_late (layer_run 0 (layer_of pairs gates) s).answer (layer_run_ended 0 (layer_of pairs gates) s x.sound fits) in
+    layer_run_tallied y 0 (layer_of pairs gates) s x.sound fits ∙ ap (counted y (tallied y s)) (sym (unless_late _ shares late)))
+    (λ e. counted_none y (tallied y s) ∙ ap (counted y (tallied y s)) (sym (unless_early_lem (layer_refusal s work pairs gates) shares (layer_early s work pairs gates e))))
+  where
+    shares : List Dropped
+    shares = layer_shares (layer_of pairs gates) s
+
+-- a call that makes no gate leaves the totals
 reads_tallied : (y : Tally) (s : State) (c : Chain) → Reads s.chain c → y.figure (cut_totals_of c) ≡ counted y (tallied y s) []
 reads_tallied y s c r = ap y.figure r.totals ∙ counted_none y (tallied y s)
 
@@ -215,6 +249,7 @@ pub call_tallied : (y : Tally) (c : Call) (s : State) → tallied y (state_of c 
 unfolding call_shares named_gate_call
 call_tallied y (gate q0 q1 g work) s = gate_tallied y s work q0 q1 g
 call_tallied y (named q0 q1 name work) s = gate_tallied y s work q0 q1 (matrix_of name)
+call_tallied y (layer pairs gates work) s = layer_tallied y s work pairs gates
 call_tallied y (project q o work) s = reads_tallied y s _ (project_reads s work q o)
 call_tallied y (measure q flag draw work) s = reads_tallied y s _ (measure_reads s work q flag draw)
 call_tallied y (reset q draw work) s = reads_tallied y s _ (reset_reads s work q draw)

@@ -15,8 +15,9 @@ use Rattle.model.specs.Answers.{Answer, Measured, view_answer, view_projected, v
 use Rattle.model.specs.Calls.{After, after, short, outside, cleared, project_refusal, project_run, project_call, measure_refusal, measure_run, measure_call, reset_refusal, reset_run, reset_call}
 use Rattle.model.specs.Statements.Demand1.{NothingExactly, Numbered, Remains, Clamped}
 use Rattle.model.proofs.Laws.SoundKept.{readied_keeps}
-use Rattle.model.proofs.Laws.Refusals.{AcceptedReading, project_passes, measure_passes, reset_passes, run_late, first_of_least, start_refusals, project_refusals, measure_refusals, reset_refusals, left_environment_refusals, right_environment_refusals}
+use Rattle.model.proofs.Laws.Refusals.{AcceptedReading, project_passes, measure_passes, reset_passes, run_late, start_refusals, project_refusals, measure_refusals, reset_refusals, left_environment_refusals, right_environment_refusals, first_of_early}
 use Rattle.model.proofs.Laws.Gates.{gate_refusals, named_refusals}
+use Rattle.model.proofs.Laws.LayerCalls.{layer_refusals, layer_leaves}
 use Rattle.model.proofs.Laws.AfterStates.{gate_leaves, gate_unmoved, named_leaves, named_unmoved, project_leaves, measure_leaves, reset_leaves}
 use Rattle.model.proofs.Laws.StartLaws.{start_leaves}
 use Rattle.model.proofs.Laws.EnvironmentLaws.{left_environment_leaves, right_environment_leaves}
@@ -62,7 +63,7 @@ module _ (s : State) (work : List Float) where
     unfolding project_call
     project_runs e =
         run_late (λ (a : After Projected). (view_projected a.answer).number) (project_refusal s work q) (project_run k o s (cleared s.chain work)) (after (projected.Refused (project_refusal s work q)) s work)
-        refl (first_of_least (not (sound s.chain)) (short s.chain s.store work) (outside s.chain q) false) (inl e)
+        refl (first_of_early (not (sound s.chain)) (short s.chain s.store work) (outside s.chain q) false) (inl e)
 
     project_ran : eqb (project_refusal s work q) 0 ≡ true → project_call s work q o ≡ project_run k o s (cleared s.chain work)
     unfolding project_call
@@ -104,7 +105,7 @@ module _ (s : State) (work : List Float) where
         let run = measure_run site flag draw s (cleared s.chain work) in
         let back = after (Err refusal) s work in
         let e' = run_late (λ (a : After Measured). (view_measured a.answer).number) refusal run back refl
-        (first_of_least (not (sound s.chain)) (short s.chain s.store work) four (not (share01 draw))) (inl e) in
+        (first_of_early (not (sound s.chain)) (short s.chain s.store work) four (not (share01 draw))) (inl e) in
         ap (λ (x : Bool). (cond x run back).store) e'
         ∙ ap (λ (u : State). u.store) (projected_at_clamped site b ready (same_clamp (measure_passes s work q flag draw e') h))
 
@@ -115,7 +116,7 @@ module _ (s : State) (work : List Float) where
         let run = reset_run site draw s (cleared s.chain work) in
         let back = after (Err refusal) s work in
         let e' = run_late (λ (a : After Answer). (view_answer a.answer).number) refusal run back refl
-        (first_of_least (not (sound s.chain)) (short s.chain s.store work) (outside s.chain q) (not (share01 draw))) (inl e) in
+        (first_of_early (not (sound s.chain)) (short s.chain s.store work) (outside s.chain q) (not (share01 draw))) (inl e) in
         ap (λ (x : Bool). (cond x run back).store) e' ∙ ap (λ (u : State). u.store) (reset_at_clamped site b ready (same_clamp (reset_passes s work q draw e') h))
 
 pub numbered : Numbered
@@ -123,6 +124,7 @@ numbered = record {
   start = start_refusals;
   gate = gate_refusals;
   named = named_refusals;
+  layer = layer_refusals;
   project = project_refusals;
   measure = measure_refusals;
   reset = reset_refusals;
@@ -137,6 +139,7 @@ remains = record {
   named = named_leaves;
   unmoved = gate_unmoved;
   unmoved_named = named_unmoved;
+  layer = layer_leaves;
   project = project_leaves;
   measure = measure_leaves;
   reset = reset_leaves;

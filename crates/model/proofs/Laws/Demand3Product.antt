@@ -86,8 +86,8 @@ module _ (n d long : ℕ) {q0 q1 : ℕ} where
   -- its two qubits differ
   distinct : {c : Call} {m : List (List Complex)} → GateOn q0 q1 c m → refusal n d long c ≡ 0 → q0 ≢ q1
   unfolding refusal
-  distinct (by_matrix g work) z = (two_qubits n q0 q1 (none_refuses (too_short n d long (length work)) _ (no_gate g) z).0).2
-  distinct (by_name name work) z = (two_qubits n q0 q1 (none_refuses (too_short n d long (length work)) _ false z).0).2
+  distinct (by_matrix g work) z = (two_qubits n q0 q1 (none_refuses (too_short n d long (length work)) _ false (no_gate g) z).1).2
+  distinct (by_name name work) z = (two_qubits n q0 q1 (none_refuses (too_short n d long (length work)) _ false false z).1).2
 
   -- the machine moves as its matrix does
   machine_moved : {c : Call} {m : List (List Complex)} → GateOn q0 q1 c m → refusal n d long c ≡ 0 → (G : Moves m) (M : Machine) → machine_next n d long c M ≡ moved_by m G q0 q1 M

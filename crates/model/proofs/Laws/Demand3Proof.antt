@@ -1,49 +1,53 @@
 -- DEMAND 3, proved: the chain refuses as the machine does, an accepted call answers as the machine does and leaves the chain following it, and so does a list of calls from a fresh chain.
-use Rattle.std.specs.Prelude.{◌≡◌, Bool, not, ◌&&◌, ◌||◌, ◌≢◌, T, length, get_or, Float, Err}
-use Rattle.std.proofs.Math.Path.{refl, ap, subst}
-use Rattle.std.proofs.Common.{sym, ◌∙◌, lit≤}
-use Rattle.std.proofs.Math.Bool.{true, false, not-not, cond}
+use Rattle.std.specs.Prelude.{◌≡◌, Bool, ◌&&◌, ◌||◌, ◌≢◌, T, length, get_or, Float, Err, eqb}
+use Rattle.std.proofs.Math.Path.{refl, ap, subst, sym}
+use Rattle.std.proofs.Common.{◌∙◌, lit≤}
+use Rattle.std.proofs.Math.Bool.{true, false, not-not, cond, not}
 use Rattle.std.specs.Bool.{beq}
 use mathlib.Core.List.{List, [], ◌∷◌}
-use Prim.Native.Nat.{ℕ, zero, suc, ◌+◌, ◌-◌, ◌*◌, ◌≤◌, ◌<◌}
+use Prim.Native.Nat.{ℕ, zero, suc, ◌+◌, ◌-◌, ◌*◌, ◌≤◌, ◌<◌, ◌%◌}
 use Rattle.std.proofs.Math.Decide.{ℕ_discrete}
 use native.Mathlib.Omega.{arith}
-use Rattle.std.proofs.Math.Dec.{ltb, leb, eqb, eqb-suc-zero}
+use Rattle.std.proofs.Math.Dec.{ltb, leb, eqb-suc-zero}
 use Rattle.std.specs.Float.Ieee.{lt, le, neg, of_bits}
 use Rattle.std.specs.Float.Ieee.Bits.{is_true}
 use Rattle.std.specs.Float.Ieee.Fits.{and_l, and_r}
 use Rattle.std.specs.Float.Ieee.Scale.{finite}
-use borrow.Author.Tests.{leb-false, le-ltb, lt-leb}
+use borrow.Author.Tests.{leb-false, le-ltb, lt-leb, eqb-true, not-false}
 use Rattle.complex.specs.Complex.{mul_c, zero_f, one_f}
-use Rattle.complex.specs.Loops.{each, every}
+use Rattle.complex.specs.Loops.{each, every, each_none, each_more, every_at}
 use Rattle.complex.specs.Numbers.{at}
 use Rattle.complex.specs.declared.Complex.{Complex}
-use Rattle.gates.specs.Gate.{entry, gate_of}
+use Rattle.gates.specs.Gate.{entry, gate_of, entry_gate_of}
 use Rattle.gates.specs.Finite.{finite_c, all_finite}
 use Rattle.gates.specs.Named.{matrix_of, named_entry}
 use Rattle.gates.specs.declared.NamedGate.{NamedGate}
 use Rattle.gates.specs.declared.NamedGate.TheVariants.{Swap, Cx, Cz}
 use Rattle.model.specs.declared.Chain.{Chain}
+use Rattle.model.specs.declared.Layered.TheVariants as layered
 use Rattle.model.specs.declared.Projected.TheVariants as projected
 use Rattle.model.specs.Chain.{site_of, qubit_at}
 use Rattle.model.specs.Slots.{State, held, slot_room, store_room, work_room, site_at}
-use Rattle.model.specs.Cut.{Ran}
-use Rattle.model.specs.Routing.{gate_run, gate_reason}
+use Rattle.model.specs.Cut.{Ran, ran}
+use Rattle.model.specs.Layers.{pair_count, first, second, gate_at, placed_at, placed_from, layer_of}
+use Rattle.model.specs.Routing.{gate_run, gate_reason, LayerRan, layer_run}
 use Rattle.model.specs.Born.{weight_at, drawn_at, projected_at, reset_at, readied}
 use Rattle.model.specs.Sound.{share01, sound}
 use Rattle.model.specs.Start.{fresh_chain, fresh_store}
-use Rattle.model.specs.Answers.{View, accepted, refused, none, weight, nothing, bit, view_answer, view_applied, view_projected, view_measured}
-use Rattle.model.specs.Calls.{After, after, first_of, short, cleared, gate_refusal, project_refusal, measure_refusal, reset_refusal, gate_after, gate_call, named_gate_call, project_answer, project_run, project_call, flagged, measure_run, measure_call, reset_run, reset_call, Started}
-use Rattle.model.specs.Lists.{Call, gate, named, project, measure, reset, left, answer_of, state_of, answers_of, final_state}
+use Rattle.model.specs.Answers.{View, accepted, refused, none, weight, nothing, bit, view_answer, view_applied, view_projected, view_measured, view_layered}
+use Rattle.model.specs.Calls.{After, after, first_of, short, cleared, gate_refusal, project_refusal, measure_refusal, reset_refusal, gate_after, gate_call, named_gate_call, project_answer, project_run, project_call, flagged, measure_run, measure_call, reset_run, reset_call, Started, first_among, no_pair, pairs_fit, pairs_apart, gates_finite, layer_refusal, layer_after, layer_call}
+use Rattle.model.specs.Lists.{Call, gate, named, project, measure, reset, left, answer_of, state_of, answers_of, final_state, layer}
 use Rattle.model.specs.Phases.{Phase, ◌⊗◌, one}
 use Rattle.model.specs.Machine as machine
-use Rattle.model.specs.Machine.{Machine, too_short, no_number, no_gate, no_draw, in_turn, refusal, reply, next, machine_answer, machine_next, machine_answers, machine_after, fresh, monomial, allowed, all_allowed}
+use Rattle.model.specs.Machine.{Machine, too_short, no_number, no_gate, no_draw, in_turn, refusal, reply, next, machine_answer, machine_next, machine_answers, machine_after, fresh, monomial, allowed, all_allowed, unpaired, pair_outside, gate_improper, named_twice, moved_at}
 use Rattle.model.specs.Statements.Demand3.{F64, F64s, AllF64, entry_at, product, Follows, Demand3}
 use Rattle.model.proofs.Laws.CallsSound.{call_sound}
 use Rattle.model.specs.Statements.Soundness.{Settings, Sound}
 use Rattle.model.proofs.Laws.SoundFacts.{facts_sound}
 use Rattle.model.proofs.Laws.Labels.{sound_maps}
 use Rattle.model.proofs.Laws.Refusals.{two_qubits}
+use Rattle.model.proofs.Laws.LayerRuns.{fits_at_lem, layer_none, layer_on}
+use Rattle.model.proofs.Laws.LayerMachine.{unpaired_alike, twice_alike}
 use Rattle.model.proofs.Laws.Units.{nought, unit, Is, Holds, Moves, Fraction, one_left, is_mul, is_equal, is_solid, zero_nought, one_unit}
 use Rattle.model.proofs.Laws.Tracked.{Setup, setup_of, Fit, Tracked, update, update_at, update_else, readied_tracked, weight_tracked, drawn_tracked, answer_tracked, projected_tracked, reset_tracked}
 use Rattle.model.proofs.Laws.Following.{Following, multiplied, label, moved_is, gate_done}
@@ -72,47 +76,76 @@ proper_draw : (x : Float) → not (share01 x) ≡ no_draw x
 proper_draw x = not_and (le zero_f x) (lt x one_f)
 
 module _ (S : Setup) (s : State) (same : setup_of s ≡ S) (h : T (sound s.chain)) where
-  refused_alike : (work : List Float) (out : ℕ → Bool) (improper improper' : Bool) → improper ≡ improper'
-      → first_of (not (sound s.chain)) (short s.chain s.store work) (out s.chain.num_qubits) improper
-      ≡ in_turn (too_short S.qubits S.cap S.long (length work)) (out S.qubits) improper'
-  refused_alike work out improper improper' e =
-      let fine : not (sound s.chain) ≡ false = ap not (is_true (sound s.chain) h) in
+  fine : not (sound s.chain) ≡ false
+  fine = ap not (is_true (sound s.chain) h)
+
+  short_alike : (work : List Float) → short s.chain s.store work ≡ too_short S.qubits S.cap S.long (length work)
+  short_alike work =
       let store_room_lem : store_room S.qubits S.cap ≡ 4 * S.qubits * (S.cap * S.cap) = omega arith in
       let work_room_lem : work_room S.cap ≡ 80 * (S.cap * S.cap) + 16 * S.cap = omega arith in
-      (λ i. first_of (fine i) (ltb (same i).long (store_room (same i).qubits (same i).cap) || ltb (length work) (work_room (same i).cap)) (out (same i).qubits) (e i))
-      ∙ (λ i. in_turn (ltb S.long (store_room_lem i) || ltb (length work) (work_room_lem i)) (out S.qubits) improper')
+      (λ i. ltb (same i).long (store_room (same i).qubits (same i).cap) || ltb (length work) (work_room (same i).cap)) ∙ (λ i. ltb S.long (store_room_lem i) || ltb (length work) (work_room_lem i))
 
   pub gate_refusal_lem : (q0 q1 : ℕ) (g : List (List Complex)) (work : List Float) → gate_refusal s work q0 q1 g ≡ refusal S.qubits S.cap S.long (gate q0 q1 g work)
   unfolding refusal
-  gate_refusal_lem q0 q1 g work = refused_alike work (λ n. leb n q0 || leb n q1 || eqb q0 q1) (not (all_finite g)) (no_gate g) (finite_gate g)
+  gate_refusal_lem q0 q1 g work = λ i. first_of (fine i) (short_alike work i) (no_pair (same i).qubits q0 q1) (finite_gate g i)
 
   pub named_refusal : (q0 q1 : ℕ) (name : NamedGate) (work : List Float) → gate_refusal s work q0 q1 (matrix_of name) ≡ refusal S.qubits S.cap S.long (named q0 q1 name work)
   unfolding refusal
-  named_refusal q0 q1 name work = refused_alike work (λ n. leb n q0 || leb n q1 || eqb q0 q1) (not (all_finite (matrix_of name))) false (named_finite name)
+  named_refusal q0 q1 name work = λ i. first_of (fine i) (short_alike work i) (no_pair (same i).qubits q0 q1) (named_finite name i)
+
+  pub layer_refusal_lem : (pairs : List ℕ) (gates : List Float) (work : List Float) → layer_refusal s work pairs gates ≡ refusal S.qubits S.cap S.long (layer pairs gates work)
+  unfolding refusal pairs_fit gates_finite
+  layer_refusal_lem pairs gates work =
+      (λ i. first_among (fine i) (short_alike work i || unpaired_alike pairs gates i) (not (pairs_fit (same i).qubits pairs)) (not (pairs_apart pairs)) (not (every (pair_count pairs) (λ p. finite_alike (gate_at gates p) i))))
+      ∙ nine_alike (too_short S.qubits S.cap S.long (length work) || unpaired pairs gates) (pair_outside S.qubits pairs) (not (pairs_apart pairs)) (named_twice S.qubits pairs) (gate_improper pairs gates) (λ e. twice_alike S.qubits pairs (λ p l. let two = fits_at_lem S.qubits pairs p (not-false (pairs_fit S.qubits pairs) e) l in (two.0, two.1)))
+    where
+      finite_alike : (g : List (List Complex)) → all_finite g ≡ not (no_gate g)
+      finite_alike g = sym (not-not (all_finite g)) ∙ ap not (finite_gate g)
+
+      -- 9 is asked after 4
+      nine_alike : (two four nine nine' five : Bool) → (four ≡ false → nine ≡ nine') → in_turn two four nine five ≡ in_turn two four nine' five
+      nine_alike two true nine nine' five e = refl
+      nine_alike two false nine nine' five e = ap (λ (b : Bool). in_turn two false b five) (e refl)
 
   pub project_refusal_lem : (q : ℕ) (o : Bool) (work : List Float) → project_refusal s work q ≡ refusal S.qubits S.cap S.long (project q o work)
   unfolding refusal
-  project_refusal_lem q o work = refused_alike work (λ n. leb n q) false false refl
+  project_refusal_lem q o work = λ i. first_of (fine i) (short_alike work i) (leb (same i).qubits q) false
 
   pub measure_refusal_lem : (q flag : ℕ) (draw : Float) (work : List Float) → measure_refusal s work q flag draw ≡ refusal S.qubits S.cap S.long (measure q flag draw work)
   unfolding refusal
-  measure_refusal_lem q flag draw work = refused_alike work (λ n. leb n q || leb 64 flag) (not (share01 draw)) (no_draw draw) (proper_draw draw)
+  measure_refusal_lem q flag draw work = λ i. first_of (fine i) (short_alike work i) (leb (same i).qubits q || leb 64 flag) (proper_draw draw i)
 
   pub reset_refusal_lem : (q : ℕ) (draw : Float) (work : List Float) → reset_refusal s work q draw ≡ refusal S.qubits S.cap S.long (reset q draw work)
   unfolding refusal
-  reset_refusal_lem q draw work = refused_alike work (λ n. leb n q) (not (share01 draw)) (no_draw draw) (proper_draw draw)
+  reset_refusal_lem q draw work = λ i. first_of (fine i) (short_alike work i) (leb (same i).qubits q) (proper_draw draw i)
 
 -- ---- what an accepted call says of its arguments
 
-pub none_refuses : (a b c : Bool) → in_turn a b c ≡ 0 → (b ≡ false) × (c ≡ false)
-none_refuses true b c e = absurd (omega arith)
-none_refuses false true c e = absurd (omega arith)
-none_refuses false false true e = absurd (omega arith)
-none_refuses false false false e = (refl, refl)
+-- of 2, of 4 and of 5; 9 says nothing that a gate needs
+pub none_refuses : (a b c d : Bool) → in_turn a b c d ≡ 0 → (a ≡ false) × (b ≡ false) × (d ≡ false)
+none_refuses true b c d e = absurd (omega arith)
+none_refuses false true c d e = absurd (omega arith)
+none_refuses false false true d e = absurd (omega arith)
+none_refuses false false false true e = absurd (omega arith)
+none_refuses false false false false e = (refl, refl, refl)
 
 -- an allowed gate by matrix, if the machine does not refuse it, moves bits and phases
 pub allowed_moves : (n d long q0 q1 : ℕ) (g : List (List Complex)) (work : List Float) → F64s (gate q0 q1 g work) → T (allowed n d long (gate q0 q1 g work)) → refusal n d long (gate q0 q1 g work) ≡ 0 → Moves g
 allowed_moves n d long q0 q1 g work f a z = monomial_moves g (subst (λ (k : ℕ). T (not (eqb k 0) || monomial g)) z a) f
+
+-- and so does each gate of an allowed layer, on two of n qubits
+pub layer_moves : (n d long : ℕ) (pairs : List ℕ) (gates work : List Float) → F64s (layer pairs gates work) → T (allowed n d long (layer pairs gates work)) → refusal n d long (layer pairs gates work) ≡ 0
+    → (p : ℕ) → p < pair_count pairs → Moves (gate_at gates p) × ((first pairs p < n) × (second pairs p < n) × (first pairs p ≢ second pairs p))
+unfolding refusal pairs_fit gate_at at
+layer_moves n d long pairs gates work f a z p l =
+    let x = none_refuses (too_short n d long (length work) || unpaired pairs gates) (pair_outside n pairs) (named_twice n pairs) (gate_improper pairs gates) z in
+    let agree = neither (eqb (length pairs % 2) 1) (not (eqb (length gates) (16 * length pairs))) (neither (too_short n d long (length work)) (unpaired pairs gates) x.0).1 in
+    let many : length gates ≡ 16 * length pairs = eqb-true (length gates) (16 * length pairs) (not-false (eqb (length gates) (16 * length pairs)) agree.1) in
+    let monomials = subst (λ (k : ℕ). T (not (eqb k 0) || every (pair_count pairs) (λ p. monomial (gate_at gates p)))) z a in (
+      monomial_moves (gate_at gates p) (every_at (pair_count pairs) (λ p. monomial (gate_at gates p)) p l monomials) (λ r c hr hc.
+          rw (entry_gate_of (λ r c. at gates (16 * p + 4 * r + c)) r c hr hc) (f (2 * (16 * p + 4 * r + c)) (omega arith), f (2 * (16 * p + 4 * r + c) + 1) (omega arith))),
+      fits_at_lem n pairs p (not-false (pairs_fit n pairs) x.1) l,
+    )
 
 fraction : (x : Float) → F64 x → no_draw x ≡ false → Fraction x
 fraction x f e = let y = neither (not (le zero_f x)) (not (lt x one_f)) e in record { fit = f; least = holds (le zero_f x) y.0; below = holds (lt x one_f) y.1 }
@@ -223,14 +256,38 @@ module _ (S : Setup) (D : Fit S) where
         go zero z = done z
         go (suc j) z = subst (λ (b : Bool). Alike b (suc j) b (suc j)) (sym (eqb-suc-zero j)) (shown (suc j), t)
 
+  -- a gate that moves bits and phases, on two qubits, is done and followed
+  pair_runs : (g : List (List Complex)) (q0 q1 : ℕ) (u : State) (N : Machine) → Moves g × ((q0 < S.qubits) × (q1 < S.qubits) × (q0 ≢ q1)) → Following S u N
+      → (v : State) × (gate_run g q0 q1 u ≡ ran 0 v) × Following S v (machine.moved g q0 q1 N)
+  pair_runs g q0 q1 u N x f =
+      let c = gate_done S D g x.0 q0 q1 u N x.1.0 x.1.1 x.1.2 f in
+      (c.0, c.1, subst (Following S c.0) (sym (moved_is g x.0 q0 q1 N)) c.2)
+
+  -- a layer's run that is done, and followed by the machine N
+  record LayerFollows (r : LayerRan) (N : Machine) : Type 0 where
+    done : r.answer ≡ layered.Done
+    following : Following S r.state N
+
+  -- the last m of k pairs, from pair p on
+  module _ (pairs : List ℕ) (gates : List Float) (k : ℕ) (G : (p : ℕ) → p < k → Moves (gate_at gates p) × ((first pairs p < S.qubits) × (second pairs p < S.qubits) × (first pairs p ≢ second pairs p))) (M : Machine) where
+    layer_runs : (m p : ℕ) → p + m ≡ k → (u : State) → Following S u (each p (moved_at pairs gates) M) → LayerFollows (layer_run p (placed_from pairs gates m p) u) (each k (moved_at pairs gates) M)
+    unfolding placed_from
+    layer_runs zero p e u f =
+        let last : p ≡ k = omega arith in
+        subst (λ (r : LayerRan). LayerFollows r (each k (moved_at pairs gates) M)) (sym (layer_none p u)) (record { done = refl; following = subst (λ (j : ℕ). Following S u (each j (moved_at pairs gates) M)) last f })
+    layer_runs (suc m) p e u f =
+        let c = pair_runs (gate_at gates p) (first pairs p) (second pairs p) u (each p (moved_at pairs gates) M) (G p (omega arith)) f in
+        let rest = layer_runs m (p + 1) (omega arith) c.0 (subst (Following S c.0) (sym (each_more p (moved_at pairs gates) M)) c.2) in
+        subst (λ (r : LayerRan). LayerFollows r (each k (moved_at pairs gates) M)) (sym (layer_on p (placed_at pairs gates p) (placed_from pairs gates m (p + 1)) u c.0 c.1)) rest
+
   module _ (s : State) (M : Machine) (t : Following S s M) (h : T (sound s.chain)) where
     -- an accepted gate
     gate_runs : (q0 q1 : ℕ) (g : List (List Complex)) → Moves g → (q0 < S.qubits) × (q1 < S.qubits) × (q0 ≢ q1) → (work : List Float)
         → (view_applied (gate_after (gate_reason g q0 q1 s) (gate_run g q0 q1 s) work).answer ≡ accepted none) × Following S (left (gate_after (gate_reason g q0 q1 s) (gate_run g q0 q1 s) work)) (machine.moved g q0 q1 M)
     gate_runs q0 q1 g G x work =
-        let c = gate_done S D g G q0 q1 s M x.0 x.1 x.2 t in (
+        let c = pair_runs g q0 q1 s M (G, x) t in (
           ap (λ (r : Ran). view_applied (gate_after (gate_reason g q0 q1 s) r work).answer) c.1,
-          subst (λ (r : Ran). Following S (left (gate_after (gate_reason g q0 q1 s) r work)) (machine.moved g q0 q1 M)) (sym c.1) (subst (λ (N : Machine). Following S c.0 N) (sym (moved_is g G q0 q1 M)) c.2),
+          subst (λ (r : Ran). Following S (left (gate_after (gate_reason g q0 q1 s) r work)) (machine.moved g q0 q1 M)) (sym c.1) c.2,
         )
 
     -- a gate by matrix that, unless it is refused, moves bits and phases
@@ -238,20 +295,26 @@ module _ (S : Setup) (D : Fit S) where
     unfolding gate_call reply next refusal
     gate_follows q0 q1 g work G =
         refused_or_run view_applied Err (λ k. refl) (gate q0 q1 g work) s M t work (gate_after (gate_reason g q0 q1 s) (gate_run g q0 q1 s) (cleared s.chain work))
-        (λ z. gate_runs q0 q1 g (G z) (two_qubits S.qubits q0 q1 (none_refuses (too_short S.qubits S.cap S.long (length work)) _ (no_gate g) z).0) (cleared s.chain work))
+        (λ z. gate_runs q0 q1 g (G z) (two_qubits S.qubits q0 q1 (none_refuses (too_short S.qubits S.cap S.long (length work)) _ false (no_gate g) z).1) (cleared s.chain work))
         (gate_refusal s work q0 q1 g) (gate_refusal_lem S s t.tracked.same h q0 q1 g work)
 
     call_follows : (c : Call) → F64s c → T (allowed S.qubits S.cap S.long c) → CallFollows c s M
-    unfolding named_gate_call gate_call project_call measure_call reset_call reply next refusal
+    unfolding named_gate_call gate_call layer_call project_call measure_call reset_call reply next refusal
     call_follows (gate q0 q1 g work) f a = gate_follows q0 q1 g work (allowed_moves S.qubits S.cap S.long q0 q1 g work f a)
     call_follows (named q0 q1 name work) f a =
         refused_or_run view_applied Err (λ k. refl) (named q0 q1 name work) s M t work (gate_after (gate_reason (matrix_of name) q0 q1 s) (gate_run (matrix_of name) q0 q1 s) (cleared s.chain work))
         (λ z. gate_runs q0 q1 (matrix_of name) (named_moves name)
-        (two_qubits S.qubits q0 q1 (none_refuses (too_short S.qubits S.cap S.long (length work)) _ false z).0) (cleared s.chain work))
+        (two_qubits S.qubits q0 q1 (none_refuses (too_short S.qubits S.cap S.long (length work)) _ false false z).1) (cleared s.chain work))
         (gate_refusal s work q0 q1 (matrix_of name)) (named_refusal S s t.tracked.same h q0 q1 name work)
+    call_follows (layer pairs gates work) f a =
+        refused_or_run view_layered layered.Refused (λ k. refl) (layer pairs gates work) s M t work (layer_after (layer_run 0 (layer_of pairs gates) s) (cleared s.chain work))
+        (λ z.
+        let x = layer_runs pairs gates (pair_count pairs) (layer_moves S.qubits S.cap S.long pairs gates work f a z) M (pair_count pairs) 0 (omega arith) s (subst (Following S s) (sym (each_none (moved_at pairs gates) M)) t) in
+        (ap view_layered x.done, x.following))
+        (layer_refusal s work pairs gates) (layer_refusal_lem S s t.tracked.same h pairs gates work)
     call_follows (project q o work) f a =
         refused_or_run view_projected projected.Refused (λ k. refl) (project q o work) s M t work (project_run (site_of s.chain q) o s (cleared s.chain work))
-        (λ z. let Q = leb-false S.qubits q (none_refuses (too_short S.qubits S.cap S.long (length work)) _ false z).0 in
+        (λ z. let Q = leb-false S.qubits q (none_refuses (too_short S.qubits S.cap S.long (length work)) _ false false z).1 in
         (ap view_projected (answer_following s M t q Q o) ∙ kept_view (beq (M.bits q) o), project_following s M t q Q o))
         (project_refusal s work q) (project_refusal_lem S s t.tracked.same h q o work)
       where
@@ -260,15 +323,15 @@ module _ (S : Setup) (D : Fit S) where
         kept_view false = refl
     call_follows (measure q flag draw work) f a =
         refused_or_run view_measured Err (λ k. refl) (measure q flag draw work) s M t work (measure_run (site_of s.chain q) flag draw s (cleared s.chain work))
-        (λ z. let x = none_refuses (too_short S.qubits S.cap S.long (length work)) (leb S.qubits q || ltb 63 flag) (no_draw draw) z in
-        let Q = leb-false S.qubits q (neither (leb S.qubits q) (ltb 63 flag) x.0).0 in
-        (ap (λ (b : Bool). accepted (bit b)) (drawn_at_lem s M t q Q draw (fraction draw f x.1) ∙ bit_is s M t q Q), flag_following s M t q Q flag _ _))
+        (λ z. let x = none_refuses (too_short S.qubits S.cap S.long (length work)) (leb S.qubits q || ltb 63 flag) false (no_draw draw) z in
+        let Q = leb-false S.qubits q (neither (leb S.qubits q) (ltb 63 flag) x.1).0 in
+        (ap (λ (b : Bool). accepted (bit b)) (drawn_at_lem s M t q Q draw (fraction draw f x.2) ∙ bit_is s M t q Q), flag_following s M t q Q flag _ _))
         (measure_refusal s work q flag draw) (measure_refusal_lem S s t.tracked.same h q flag draw work)
     call_follows (reset q draw work) f a =
         refused_or_run view_answer Err (λ k. refl) (reset q draw work) s M t work (reset_run (site_of s.chain q) draw s (cleared s.chain work))
-        (λ z. let x = none_refuses (too_short S.qubits S.cap S.long (length work)) (leb S.qubits q) (no_draw draw) z in
-        let Q = leb-false S.qubits q x.0 in
-        (refl, reset_following s M t q Q draw (fraction draw f x.1)))
+        (λ z. let x = none_refuses (too_short S.qubits S.cap S.long (length work)) (leb S.qubits q) false (no_draw draw) z in
+        let Q = leb-false S.qubits q x.1 in
+        (refl, reset_following s M t q Q draw (fraction draw f x.2)))
         (reset_refusal s work q draw) (reset_refusal_lem S s t.tracked.same h q draw work)
 
   -- ---- a list

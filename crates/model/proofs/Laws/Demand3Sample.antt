@@ -1,21 +1,23 @@
--- Demand 3 has instances: three qubits, cap 1; gates by name and a gate by matrix whose entries are i, a projection kept and one that finds nothing, a measurement, a refused call, a reset.
+-- Demand 3 has instances: three qubits, cap 1; gates by name and a gate by matrix whose entries are i, a projection kept and one that finds nothing, a measurement, a refused call, a reset; and layers, one of them refused.
 -- So has its product clause: two gates and their product with zeros of the other sign, and three gates whose product is a named one.
-use Rattle.std.specs.Prelude.{◌≡◌, refl, Bool, true, false, cond, ℕ, ◌+◌, T, eqb, replicate, negsuc, Float, Ok}
-use Rattle.std.proofs.Common.{◌∙◌, lit≤}
+use Rattle.std.specs.Prelude.{◌≡◌, refl, Bool, true, false, cond, ℕ, ◌+◌, T, eqb, replicate, negsuc, Float, Ok, ◌/◌, ◌%◌, get_or}
+use Rattle.std.proofs.Common.{◌∙◌, lit≤, arith}
 use mathlib.Core.List.{List, [], ◌∷◌, ◌++◌, head-eq_of_cons-eq}
-use Rattle.std.specs.Float.{fin}
+use Rattle.std.specs.Float.{fin, nan, binary64}
 use Rattle.std.specs.Float.Ieee.{fits, add, sub, mul, lt, le, eq, neg, of_bits}
 use Rattle.complex.specs.Complex.{add_c, mul_c, zero_f, one_f, zero_c, is_zero}
 use Rattle.complex.specs.Loops.{each, every, every_at}
+use Rattle.complex.specs.Numbers.{at, numbers}
 use Rattle.complex.specs.declared.Complex.{Complex}
 use Rattle.gates.specs.Gate.{entry, gate_of}
 use Rattle.gates.specs.Named.{matrix_of, named_entry}
 use Rattle.gates.specs.declared.NamedGate.TheVariants.{Swap, Cx, Cz}
 use Rattle.model.specs.Slots.{State, held}
+use Rattle.model.specs.Layers.{gate_at}
 use Rattle.model.specs.Sound.{settings_fit}
 use Rattle.model.specs.Answers.{accepted, refused, none, weight, nothing, bit}
 use Rattle.model.specs.Calls.{start_call}
-use Rattle.model.specs.Lists.{Call, gate, named, project, measure, reset, answers_of, final_state}
+use Rattle.model.specs.Lists.{Call, gate, named, project, measure, reset, answers_of, final_state, layer}
 use Rattle.model.specs.Phases.{phase, equals, is_phase, read_phase}
 use Rattle.model.specs.Machine.{Machine, fresh, refusal, nonzero_row, moved, reply, next, monomial, machine_answers, machine_after, all_allowed}
 use Rattle.model.specs.Statements.Demand3.{AllF64, Follows, Demand3}
@@ -97,6 +99,35 @@ start_uncapped = refl
 sample_uncapped : (let st = start_call 3 1 small small 255 store in answers_of calls (held st.chain st.store) ≡ machine_answers 3 1 12 calls fresh)
 unfolding Demand3 fits
 sample_uncapped = (demand3 3 1 255 small small store tt tt (lit≤ tt) (lit≤ tt) start_uncapped calls calls_f64 calls_allowed).0
+
+-- ---- layers, on four qubits: two pairs that stand apart, one of them in the order against the chain's; and a layer that names qubit 1 twice
+
+abbrev gates : List Float
+gates = numbers 32 (λ k. turn_both (k % 16 / 4) (k % 4))
+
+abbrev layers : List Call
+layers = layer (0 ∷ 2 ∷ 3 ∷ 1 ∷ []) gates work ∷ layer (0 ∷ 1 ∷ 1 ∷ 2 ∷ []) gates work ∷ project 3 true work ∷ layer [] [] work ∷ []
+
+layers_f64 : AllF64 layers
+unfolding every numbers fits of_bits
+layers_f64 = (λ k l. every_at 64 (λ k. fits binary64 (get_or gates k nan)) k l tt, (λ k l. every_at 64 (λ k. fits binary64 (get_or gates k nan)) k l tt, (tt, (λ k l. absurd (omega arith), tt))))
+
+layers_allowed : T (all_allowed 4 1 16 layers)
+unfolding refusal monomial every each numbers at gate_at is_zero is_phase equals eq gate_of of_bits neg lt le
+layers_allowed = tt
+
+start_of_four : (start_call 4 1 small small 5 (replicate 16 zero_f)).answer ≡ (Ok tt)
+unfolding start_call settings_fit le lt eq of_bits
+start_of_four = refl
+
+-- each pair has both its bits flipped, and the phase is i times i
+layers_ended : (let M = machine_after 4 1 16 layers fresh in (M.bits 0 ≡ true) × (M.bits 1 ≡ true) × (M.bits 2 ≡ true) × (M.bits 3 ≡ true) × (M.phase ≡ phase false true))
+unfolding refusal reply next moved nonzero_row every each numbers at gate_at is_zero read_phase eq gate_of of_bits neg lt le
+layers_ended = (refl, refl, refl, refl, refl)
+
+sample_layers : (let st = start_call 4 1 small small 5 (replicate 16 zero_f) in answers_of layers (held st.chain st.store) ≡ accepted none ∷ refused 9 ∷ accepted (weight one_f) ∷ accepted none ∷ [])
+unfolding Demand3 fits refusal reply next moved nonzero_row every each numbers at gate_at is_zero read_phase eq gate_of of_bits neg lt le
+sample_layers = (demand3 4 1 5 small small (replicate 16 zero_f) tt tt (lit≤ tt) (lit≤ tt) start_of_four layers layers_f64 layers_allowed).0
 
 -- ---- the product clause: gates on the pair 2, 0, which stands apart and in the order against the chain's
 

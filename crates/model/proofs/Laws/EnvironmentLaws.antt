@@ -14,7 +14,7 @@ use Rattle.model.specs.Statements.Demand1.{Early, EnvironmentLeaves}
 use Rattle.model.specs.Statements.Soundness.{Sound}
 use Rattle.model.proofs.Laws.SoundFacts.{left_most, right_most}
 use Rattle.model.proofs.Laws.AfterStates.{work_kept, work_cleared, not_short}
-use Rattle.model.proofs.Laws.Refusals.{above_zero, early_late, passes_sound, first_of_least, first_of_none, not_outside}
+use Rattle.model.proofs.Laws.Refusals.{passes_sound, first_of_none, not_outside, first_of_early}
 use Rattle.model.proofs.Laws.Tests.{by_test, neither}
 
 -- a square matrix whose dimension is at most d
@@ -67,14 +67,14 @@ module _ (s : State) (work out : List Float) (end site : ℕ) (e : Env) (square 
       let indices = neither (outside s.chain end) (ltb s.chain.num_qubits site) p.four in
       let sq = square (passes_sound s.chain p.three) (not_outside s.chain end indices.0) (ltb-false s.chain.num_qubits site indices.1) in
       record {
-        unaltered = λ x. absurd (early_late x (inl refl));
+        unaltered = λ x. absurd (x (inl refl));
         work_left = work_cleared s.chain 0 work (inl refl) (not_short s work slices.0).scratch;
         result = λ x. (refl, written_front s.chain.max_bond_dim e sq out, written_past s.chain.max_bond_dim e sq out);
         long = written_length_lem s.chain.max_bond_dim e sq out (ltb-false (length out) (env_room s.chain.max_bond_dim) slices.1);
       })
       (λ q.
-      let early : Early (env_refusal s work out end site) = (above_zero (env_refusal s work out end site) q, first_of_least (not (sound s.chain)) lacking apart false) in
-      record { unaltered = λ x. refl; work_left = work_kept s.chain (env_refusal s work out end site) work early; result = λ x. absurd (early_late early (inl x)); long = refl })
+      let early : Early (env_refusal s work out end site) = first_of_early (not (sound s.chain)) lacking apart false q in
+      record { unaltered = λ x. refl; work_left = work_kept s.chain (env_refusal s work out end site) work early; result = λ x. absurd (early (inl x)); long = refl })
 
 module _ (s : State) (work out : List Float) where
   pub left_environment_leaves : (from site : ℕ) → (let a = left_environment_call s work out from site in EnvironmentLeaves s work out (view_contracted a.answer).number (left_env from site s) a)

@@ -1,46 +1,34 @@
--- A gate: the number that it answers, by its table; that it is done or stops at a cut, the proof of (f); and the labels after any call.
+-- A gate: the number that it answers, by its table; and that it is done or stops at a cut, the proof of (f).
 use Rattle.std.specs.Prelude.{ℕ, ◌≤◌, ◌+◌, ◌<◌, ◌≡◌, ◌⊎◌, ◌≢◌, ◌||◌, Bool, true, false, List, [], ◌∷◌, ◌++◌, eqb, Float, Err}
-use Rattle.std.proofs.Math.Path.{refl, ap, subst}
-use Rattle.std.proofs.Common.{sym, ◌∙◌, inl, inr, ⊎_elim, arith, ne_eqb}
+use Rattle.std.proofs.Math.Path.{refl, ap}
+use Rattle.std.proofs.Common.{sym, ◌∙◌, inl, inr, ⊎_elim, arith, subst, eq-eqb}
 use Rattle.std.proofs.Math.Bool.{cond}
-use Rattle.std.proofs.Math.Decide.{dec_lt}
 use Rattle.complex.specs.declared.Complex.{Complex}
 use Rattle.gates.specs.Named.{matrix_of}
 use Rattle.gates.specs.declared.NamedGate.{NamedGate}
 use Rattle.model.specs.declared.Chain.{Chain}
 use Rattle.model.specs.declared.Reason.{Reason}
-use Rattle.model.specs.Chain.{Labels, labels_of}
+use Rattle.model.specs.Chain.{labels_of}
 use Rattle.model.specs.Slots.{State}
 use Rattle.model.specs.Routing.{gate_run, gate_reason, Step, stepped, run_steps}
 use Rattle.model.specs.Answers.{Applied, view_applied}
 use Rattle.model.specs.Calls.{After, outside, cleared, gate_refusal, gate_after, gate_call, named_gate_call, after, applied_of}
 use Rattle.model.specs.Cut.{Ran}
-use Rattle.model.specs.Lists.{Call, gate, named, project, measure, reset, state_of, answer_of}
-use Rattle.model.specs.Statements.Table.{Row, ◌when◌, AboveWorkspace, NanIn, FirstGround, NoPair, gate_table, gate_steps, cut_rows}
-use Rattle.model.specs.Statements.Demand1.{Late, Early}
-use Rattle.model.specs.Statements.Demand1Cuts.{StandsBySix, StandsBySeven, shares_of, StopsAt, GateEnds, Stops, labels_after}
-use Rattle.model.proofs.Laws.SoundKept.{Inside, stepped_keeps, accepted_gate, gate_accepted}
-use Rattle.model.proofs.Laws.Refusals.{decides_unsound, decides_short, decides_gate, applied_number, first_of_lem, number_picked, run_late, gate_least}
+use Rattle.model.specs.Lists.{gate, named}
+use Rattle.model.specs.Statements.Table.{◌when◌, AboveWorkspace, NanIn, FirstGround, NoPair, gate_table, gate_steps, cut_rows, Unsound, ShortSlice, NoGate}
+use Rattle.model.specs.Statements.Demand1.{Late}
+use Rattle.model.specs.Statements.Demand1Cuts.{StandsBySix, StandsBySeven, shares_of, StopsAt, GateEnds, Stops}
+use Rattle.model.proofs.Laws.SoundKept.{Inside, stepped_keeps, gate_accepted}
+use Rattle.model.proofs.Laws.Refusals.{decides_unsound, decides_short, decides_gate, applied_number, run_late, untested, test, first_then, table_answered, gate_early}
 use Rattle.model.proofs.Laws.CutEnds.{CutEnds, above, nan, stored, adjacent_ends, stepped_number, refused_narrowed, stepped_refused, run_on}
 use Rattle.model.specs.Statements.Soundness.{Sound}
 use Rattle.model.proofs.Laws.MoveLaws.{AsBefore}
-use Rattle.model.proofs.Laws.CutShares.{Tally, tallied, counted, of_chain_lem, run_tallied, project_reads, measure_reads, reset_reads}
+use Rattle.model.proofs.Laws.CutShares.{Tally, tallied, counted, of_chain_lem, run_tallied}
 use Rattle.model.proofs.Laws.BondShares.{of_bond_lem}
 use Rattle.model.proofs.Laws.RouteLabels.{run_labels, gate_labels}
-use Rattle.model.proofs.Laws.AfterStates.{gate_leaves}
 use Rattle.model.proofs.Laws.Tests.{Decides, by_test, decides_as, decides_either, decides_equal, decides_least}
 
 -- ---- the number that a run of cuts answers
-
--- two rows of a cut, then those of the cuts after it
-then_rows : (A N : Type 0) (rs : List Row) (k m : ℕ) → FirstGround (6 when A ∷ 7 when N ∷ []) k → (k ≡ 0 → FirstGround rs m)
-    → FirstGround (6 when A ∷ 7 when N ∷ rs) (cond (eqb k 0) m k)
-then_rows A N rs k m (inl x) rest = inl (x.0, rw x.1)
-then_rows A N rs k m (inr x) rest = inr (x.0, last x.1)
-  where
-    last : FirstGround (7 when N ∷ []) k → FirstGround (7 when N ∷ rs) (cond (eqb k 0) m k)
-    last (inl y) = inl (y.0, rw y.1)
-    last (inr y) = inr (y.0, rw y.1 (rest y.1))
 
 ends_number : (g : List (List Complex)) (k : ℕ) (s : State) (r : Ran) → CutEnds g k s r → FirstGround (6 when AboveWorkspace k s ∷ 7 when ((t : State) × NanIn g k s t) ∷ []) r.refused
 ends_number g k s r (above a e) = inl (a, ap (λ (x : Ran). x.refused) e)
@@ -62,13 +50,13 @@ run_first [] s h inside = refl
 run_first (x ∷ xs) s h inside =
     let y = stepped_keeps x s h inside.0 in
     subst (FirstGround (cut_rows (x ∷ xs) s)) (sym (run_more x xs s))
-    (then_rows (AboveWorkspace x.site s) ((t : State) × NanIn x.gate x.site s t) (cut_rows xs (stepped x s).state) (stepped x s).refused _
+    (first_then (6 when AboveWorkspace x.site s ∷ 7 when ((t : State) × NanIn x.gate x.site s t) ∷ []) (cut_rows xs (stepped x s).state) (stepped x s).refused _ tt
     (rw (stepped_number x s) (ends_number x.gate x.site s _ (adjacent_ends x.gate x.site s h inside.0)))
     (λ e. run_first xs (stepped x s).state y.sound (rw y.qubits inside.1)))
 
 -- ---- the number that a gate answers
 
-decides_pair : (c : Chain) (q0 q1 : ℕ) → Decides (outside c q0 || outside c q1 || eqb q0 q1) (NoPair c q0 q1)
+pub decides_pair : (c : Chain) (q0 q1 : ℕ) → Decides (outside c q0 || outside c q1 || eqb q0 q1) (NoPair c q0 q1)
 decides_pair c q0 q1 = decides_as (decides_either (decides_either (decides_least c.num_qubits q0) (decides_least c.num_qubits q1)) (decides_equal q0 q1)) to back
   where
     to : ((c.num_qubits ≤ q0) ⊎ (c.num_qubits ≤ q1)) ⊎ (q0 ≡ q1) → NoPair c q0 q1
@@ -84,12 +72,13 @@ decides_pair c q0 q1 = decides_as (decides_either (decides_either (decides_least
 module _ (s : State) (work : List Float) (q0 q1 : ℕ) where
   pub gate_refusals : (g : List (List Complex)) → FirstGround (gate_table s work q0 q1 g) (view_applied (gate_call s work q0 q1 g).answer).number
   unfolding gate_call gate_run
-  gate_refusals g = subst (FirstGround (gate_table s work q0 q1 g))
-      (sym (number_picked (λ (a : After Applied). (view_applied a.answer).number) (gate_refusal s work q0 q1 g) (gate_run g q0 q1 s).refused (gate_after (gate_reason g q0 q1 s) (gate_run g q0 q1 s) (cleared s.chain work)) _
-      (applied_number (gate_reason g q0 q1 s) (gate_run g q0 q1 s).refused) refl))
-      (first_of_lem (cut_rows (gate_steps s q0 q1 g) s) (gate_run g q0 q1 s).refused
-      (decides_unsound s.chain) (decides_short s.chain s.store work) (decides_pair s.chain q0 q1) (decides_gate g)
-      (λ a b c d. let x = accepted_gate s work q0 q1 g (record { three = a; two = b; four = c; five = d }) in run_first (gate_steps s q0 q1 g) s x.sound x.inside))
+  gate_refusals g =
+      table_answered (λ (a : After Applied). (view_applied a.answer).number)
+      (3 when Unsound s.chain ∷ 2 when ShortSlice s.chain s.store work ∷ 4 when NoPair s.chain q0 q1 ∷ 5 when NoGate g ∷ []) (cut_rows (gate_steps s q0 q1 g) s)
+      (gate_refusal s work q0 q1 g) (gate_run g q0 q1 s).refused (gate_after (gate_reason g q0 q1 s) (gate_run g q0 q1 s) (cleared s.chain work)) _
+      (applied_number (gate_reason g q0 q1 s) (gate_run g q0 q1 s).refused) refl tt
+      (test 3 (decides_unsound s.chain) (test 2 (decides_short s.chain s.store work) (test 4 (decides_pair s.chain q0 q1) (test 5 (decides_gate g) untested))))
+      (λ z. let x = gate_accepted s work q0 q1 g (eq-eqb _ 0 z) in run_first (gate_steps s q0 q1 g) s x.sound x.inside)
 
   pub named_refusals : (name : NamedGate) → FirstGround (gate_table s work q0 q1 (matrix_of name)) (view_applied (named_gate_call s work q0 q1 name).answer).number
   unfolding named_gate_call
@@ -179,7 +168,7 @@ module _ (s : State) (work : List Float) (q0 q1 : ℕ) (g : List (List Complex))
   unfolding gate_call
   gate_ran l =
       run_late (λ (a : After Applied). (view_applied a.answer).number) (gate_refusal s work q0 q1 g) (gate_after (gate_reason g q0 q1 s) (gate_run g q0 q1 s) (cleared s.chain work)) (after (Err (gate_refusal s work q0 q1 g)) s work)
-      refl (gate_least s work q0 q1 g) l
+      refl (gate_early s work q0 q1 g) l
 
   pub gate_is_run : eqb (gate_refusal s work q0 q1 g) 0 ≡ true → gate_call s work q0 q1 g ≡ gate_after (gate_reason g q0 q1 s) (run_steps (gate_steps s q0 q1 g) s) (cleared s.chain work)
   unfolding gate_call gate_run
@@ -197,7 +186,7 @@ module _ (s : State) (work : List Float) (q0 q1 : ℕ) (g : List (List Complex))
     stopped = λ l.
         let e = gate_ran (inr l) in
         let x = gate_accepted s work q0 q1 g e in
-        let some : (run_steps (gate_steps s q0 q1 g) s).refused ≢ 0 = λ z. omega (arith, run_number e) in
+        let some : (run_steps (gate_steps s q0 q1 g) s).refused ≢ 0 = λ z. ⊎_elim (λ (v : number ≡ 6). omega (arith, run_number e)) (λ (v : number ≡ 7). omega (arith, run_number e)) l in
         subst (StopsAt (gate_steps s q0 q1 g) s) (sym (gate_is_run e))
         (stopped (gate_steps s q0 q1 g) s (gate_reason g q0 q1 s) (cleared s.chain work) (run_steps (gate_steps s q0 q1 g) s) x.sound some (run_stops (gate_steps s q0 q1 g) s x.sound x.inside some));
   }
@@ -205,49 +194,3 @@ module _ (s : State) (work : List Float) (q0 q1 : ℕ) (g : List (List Complex))
 pub stops : Stops
 unfolding named_gate_call
 stops = record { gate = gate_ends; named = λ s work q0 q1 name. gate_ends s work q0 q1 (matrix_of name) }
-
--- ---- the labels after any call that 6 and 7 do not refuse: matrices, amplitudes, settings and draws do not enter
-
--- a call's labels, from its number and the labels before
-abbrev pub labels_next : Call → ℕ → Labels → Labels
-labels_next (gate q0 q1 g work) number l = cond (eqb number 0) (labels_after l q0 q1) l
-labels_next (named q0 q1 name work) number l = cond (eqb number 0) (labels_after l q0 q1) l
-labels_next (project q o work) number l = l
-labels_next (measure q flag draw work) number l = l
-labels_next (reset q draw work) number l = l
-
-early_or_late : (k : ℕ) → Early k ⊎ Late k
-early_or_late k = go (dec_lt 5 k) (dec_lt 0 k)
-  where
-    go : Dec (5 < k) → Dec (0 < k) → Early k ⊎ Late k
-    go (yes l) d = inr (inr l)
-    go (no l) (yes m) = inl (omega arith, omega arith)
-    go (no l) (no m) = inr (inl (omega arith))
-
-abbrev number_of : After Applied → ℕ
-number_of r = (view_applied r.answer).number
-
-module _ (s : State) (work : List Float) (q0 q1 : ℕ) (g : List (List Complex)) where
-  abbrev Next : After Applied → Type 0
-  Next r = labels_of r.chain ≡ cond (eqb (number_of r) 0) (labels_after (labels_of s.chain) q0 q1) (labels_of s.chain)
-
-  run_next : (r : After Applied) → GateEnds s q0 q1 g r → Late (number_of r) → number_of r ≢ 6 → number_of r ≢ 7 → Next r
-  run_next r x (inl z) six seven = rw z (x.done z)
-  run_next r x (inr l) six seven =
-      absurd (⊎_elim (λ e. six (ap (λ (a : Applied). (view_applied a).number) e.0)) (λ e. seven (ap (λ (a : Applied). (view_applied a).number) e.0)) (x.stopped l).stands)
-
-  gate_next : number_of (gate_call s work q0 q1 g) ≢ 6 → number_of (gate_call s work q0 q1 g) ≢ 7 → Next (gate_call s work q0 q1 g)
-  gate_next = pick (early_or_late (number_of (gate_call s work q0 q1 g)))
-    where
-      pick : Early (number_of (gate_call s work q0 q1 g)) ⊎ Late (number_of (gate_call s work q0 q1 g)) → number_of (gate_call s work q0 q1 g) ≢ 6 → number_of (gate_call s work q0 q1 g) ≢ 7 → Next (gate_call s work q0 q1 g)
-      pick (inl e) six seven = rw (ne_eqb (number_of (gate_call s work q0 q1 g)) 0 (λ z. omega (arith, e.0))) (ap (λ (t : State). labels_of t.chain) ((gate_leaves s work q0 q1 g).unaltered e))
-      pick (inr l) six seven = run_next (gate_call s work q0 q1 g) (gate_ends s work q0 q1 g) l six seven
-
-pub call_labels : (c : Call) (s : State) → (answer_of c s).number ≢ 6 → (answer_of c s).number ≢ 7
-    → labels_of (state_of c s).chain ≡ labels_next c (answer_of c s).number (labels_of s.chain)
-unfolding named_gate_call
-call_labels (gate q0 q1 g work) s six seven = gate_next s work q0 q1 g six seven
-call_labels (named q0 q1 name work) s six seven = gate_next s work q0 q1 (matrix_of name) six seven
-call_labels (project q o work) s six seven = (project_reads s work q o).labels
-call_labels (measure q flag draw work) s six seven = (measure_reads s work q flag draw).labels
-call_labels (reset q draw work) s six seven = (reset_reads s work q draw).labels

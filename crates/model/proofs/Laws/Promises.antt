@@ -20,6 +20,8 @@ use Rattle.model.proofs.Laws.ZeroSigns as signs
 use Rattle.model.proofs.Laws.NeverSix as uncapped
 use Rattle.model.proofs.Laws.AsAt63 as exponents
 use Rattle.model.proofs.Laws.Reasons as reasons
+use Rattle.model.proofs.Laws.LayerCalls as layers
+use Rattle.model.proofs.Laws.LayerMachine as pairs
 
 pub promised : Promised
 promised = record {
@@ -62,5 +64,7 @@ promised = record {
   rank_by_reason = reasons.rank_by_reason;
   gate_reasons = reasons.gate_reasons;
   bond_weights = bonds.bond_weights;
+  layer_as_gates = layers.layer_as_gates;
+  at_most_32 = pairs.at_most_32;
   marked = examples.marked;
 }

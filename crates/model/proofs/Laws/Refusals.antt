@@ -1,11 +1,12 @@
 -- Each call answers the number that its table gives.
-use Rattle.std.specs.Prelude.{ℕ, zero, suc, ◌≤◌, ◌<◌, ◌≡◌, ◌≢◌, ◌⊎◌, Bool, true, false, not, ◌||◌, cond, T, leb, ltb, eqb, length, Float, Ok, Err}
-use Rattle.std.proofs.Common.{arith, sym, ◌∙◌, inl, inr, ⊎_elim, leb-false}
-use Rattle.std.proofs.Math.Path.{refl, subst}
+use Rattle.std.specs.Prelude.{ℕ, zero, suc, ◌<◌, ◌≡◌, ◌≢◌, ◌⊎◌, Bool, true, false, not, ◌||◌, cond, T, leb, ltb, eqb, length, Float, Ok, Err, ◌&&◌}
+use Rattle.std.proofs.Common.{arith, sym, ◌∙◌, inl, inr, leb-false, subst, ne_eqb}
+use Rattle.std.proofs.Math.Path.{refl}
 use Rattle.std.proofs.lemmas.Bool.{false≢true, eqb-false, not-false}
-use mathlib.Core.List.{List, [], ◌∷◌}
+use mathlib.Core.List.{List, [], ◌∷◌, ◌++◌}
 use Rattle.std.specs.Float.{nan, inf, fin, binary64}
 use Rattle.std.specs.Float.Ieee.{div, le, lt}
+use Rattle.std.specs.Float.Ieee.Fits.{and_l, and_r}
 use Rattle.std.specs.Float.Ieee.Scale.{finite}
 use Rattle.complex.specs.Complex.{zero_f, one_f}
 use Rattle.complex.specs.declared.Complex.{Complex}
@@ -22,12 +23,12 @@ use Rattle.model.specs.Answers.{Answer, Measured, view_answer, view_applied, vie
 use Rattle.model.specs.Born.{weight_at, total_at, readied}
 use Rattle.model.specs.Environment.{Env, left_env, right_env}
 use Rattle.model.specs.Start.{fresh_chain, fresh_store, zero_chain}
-use Rattle.model.specs.Calls.{After, applied_of, first_of, short, outside, cleared, started, start_call, gate_refusal, project_refusal, project_answer, project_run, project_call, measure_refusal, measure_run, measure_call, reset_refusal, reset_run, reset_call, Walked, env_refusal, env_run, env_after, left_environment_call, right_environment_call}
-use Rattle.model.specs.Statements.Demand1.{Early, Late}
+use Rattle.model.specs.Calls.{After, applied_of, first_of, short, outside, cleared, started, start_call, gate_refusal, project_refusal, project_answer, project_run, project_call, measure_refusal, measure_run, measure_call, reset_refusal, reset_run, reset_call, Walked, env_refusal, env_run, env_after, left_environment_call, right_environment_call, first_among}
+use Rattle.model.specs.Statements.Demand1.{Early, Late, late}
 use Rattle.model.specs.Statements.Table.{Row, ◌when◌, FirstGround, OutOfRange, ShortStore, ShortSlice, Unsound, NoQubit, NotFinite, NoGate, NoDraw, start_table, project_table, measure_table, reset_table, environment_table}
 use Rattle.model.specs.Statements.Soundness.{Sound}
 use Rattle.model.proofs.Laws.SoundFacts.{settings_facts, facts_settings, sound_facts, facts_sound}
-use Rattle.model.proofs.Laws.Tests.{not_and, Decides, by_test, decides_as, decides_below, decides_both, decides_either, decides_least, decides_not, decides_self, decides_some, neither}
+use Rattle.model.proofs.Laws.Tests.{not_and, Decides, by_test, decides_as, decides_below, decides_both, decides_either, decides_least, decides_not, decides_self, decides_some, neither, decides_equal}
 
 -- ---- the first of the rows
 
@@ -39,31 +40,41 @@ first_unique (r ∷ rs) k m (inl a) (inr b) = absurd (b.0 a.0)
 first_unique (r ∷ rs) k m (inr a) (inl b) = absurd (a.0 b.0)
 first_unique (r ∷ rs) k m (inr a) (inr b) = first_unique rs k m a.1 b.1
 
--- the order 3, 2, 4, 5; m is what a call answers that none of them refuses
-pub first_of_lem : {b3 b2 b4 b5 : Bool} {P3 P2 P4 P5 : Type 0} (rs : List Row) (m : ℕ) → Decides b3 P3 → Decides b2 P2 → Decides b4 P4 → Decides b5 P5
-    → (b3 ≡ false → b2 ≡ false → b4 ≡ false → b5 ≡ false → FirstGround rs m)
-    → FirstGround (3 when P3 ∷ 2 when P2 ∷ 4 when P4 ∷ 5 when P5 ∷ rs) (cond (eqb (first_of b3 b2 b4 b5) 0) m (first_of b3 b2 b4 b5))
-first_of_lem {b3 = true} rs m p3 p2 p4 p5 rest = inl (p3.holds tt, refl)
-first_of_lem {b3 = false} {b2 = true} rs m p3 p2 p4 p5 rest = inr (p3.fails, inl (p2.holds tt, refl))
-first_of_lem {b3 = false} {b2 = false} {b4 = true} rs m p3 p2 p4 p5 rest = inr (p3.fails, inr (p2.fails, inl (p4.holds tt, refl)))
-first_of_lem {b3 = false} {b2 = false} {b4 = false} {b5 = true} rs m p3 p2 p4 p5 rest = inr (p3.fails, inr (p2.fails, inr (p4.fails, inl (p5.holds tt, refl))))
-first_of_lem {b3 = false} {b2 = false} {b4 = false} {b5 = false} rs m p3 p2 p4 p5 rest = inr (p3.fails, inr (p2.fails, inr (p4.fails, inr (p5.fails, rest refl refl refl refl))))
+-- rows whose grounds are tested in turn, and the number of the first test that holds
+pub data Tested : List Row → ℕ → Type 1 where
+  untested : Tested [] 0
+  test : {b : Bool} {P : Type 0} {rs : List Row} {n : ℕ} (k : ℕ) → Decides b P → Tested rs n → Tested (k when P ∷ rs) (cond b k n)
 
--- the same for a call that 5 does not refuse
-pub first_of_three : {b3 b2 b4 : Bool} {P3 P2 P4 : Type 0} → Decides b3 P3 → Decides b2 P2 → Decides b4 P4
-    → FirstGround (3 when P3 ∷ 2 when P2 ∷ 4 when P4 ∷ []) (cond (eqb (first_of b3 b2 b4 false) 0) 0 (first_of b3 b2 b4 false))
-first_of_three {b3 = true} p3 p2 p4 = inl (p3.holds tt, refl)
-first_of_three {b3 = false} {b2 = true} p3 p2 p4 = inr (p3.fails, inl (p2.holds tt, refl))
-first_of_three {b3 = false} {b2 = false} {b4 = true} p3 p2 p4 = inr (p3.fails, inr (p2.fails, inl (p4.holds tt, refl)))
-first_of_three {b3 = false} {b2 = false} {b4 = false} p3 p2 p4 = inr (p3.fails, inr (p2.fails, inr (p4.fails, refl)))
+tested_first : {rs : List Row} {n : ℕ} → Tested rs n → FirstGround rs n
+tested_first untested = refl
+tested_first (test {b = true} k d x) = inl (d.holds tt, refl)
+tested_first (test {b = false} k d x) = inr (d.fails, tested_first x)
+
+-- no row has the number n
+abbrev pub without : ℕ → List Row → Bool
+without n [] = true
+without n (r ∷ rs) = not (eqb r.number n) && without n rs
+
+-- rows after rows, which count where none of those before holds; m is what they give
+pub first_then : (rs ts : List Row) (k m : ℕ) → T (without 0 rs) → FirstGround rs k → (k ≡ 0 → FirstGround ts m) → FirstGround (rs ++ ts) (cond (eqb k 0) m k)
+first_then [] ts k m w e rest = rw e (rest e)
+first_then (r ∷ rs) ts k m w (inl a) rest =
+    let some : k ≢ 0 = λ z. subst (λ (i : ℕ). T (not (eqb i 0))) (sym a.1 ∙ z) (and_l (not (eqb r.number 0)) (without 0 rs) w) in
+    inl (a.0, rw (ne_eqb k 0 some) a.1)
+first_then (r ∷ rs) ts k m w (inr a) rest = inr (a.0, first_then rs ts k m (and_r (not (eqb r.number 0)) (without 0 rs) w) a.1 rest)
 
 -- the number of what a call leaves, the run being taken where its refusal is 0
-pub number_picked : {A : Type 0} (f : A → ℕ) (k m : ℕ) (x y : A) → f x ≡ m → f y ≡ k → f (cond (eqb k 0) x y) ≡ cond (eqb k 0) m k
+number_picked : {A : Type 0} (f : A → ℕ) (k m : ℕ) (x y : A) → f x ≡ m → f y ≡ k → f (cond (eqb k 0) x y) ≡ cond (eqb k 0) m k
 number_picked f k m x y p q = pick (eqb k 0)
   where
     pick : (b : Bool) → f (cond b x y) ≡ cond b m k
     pick true = p
     pick false = q
+
+-- a call that its first rows refuse, or else its run answers: m is what the run does, by the rows after
+pub table_answered : {A : Type 0} (f : A → ℕ) (rs ts : List Row) (k m : ℕ) (x y : A) → f x ≡ m → f y ≡ k → T (without 0 rs) → Tested rs k → (k ≡ 0 → FirstGround ts m)
+    → FirstGround (rs ++ ts) (f (cond (eqb k 0) x y))
+table_answered f rs ts k m x y p q w g rest = subst (FirstGround (rs ++ ts)) (sym (number_picked f k m x y p q)) (first_then rs ts k m w (tested_first g) rest)
 
 pub applied_number : (reason : Reason) (k : ℕ) → (view_applied (applied_of reason k)).number ≡ k
 applied_number reason zero = refl
@@ -108,46 +119,63 @@ two_qubits n q0 q1 e =
     let y = neither (leb n q0) (leb n q1) x.0 in
     (leb-false n q0 y.0, leb-false n q1 y.1, eqb-false q0 q1 x.1)
 
--- ---- the tests in the order 3, 2, 4, 5
+-- ---- whether a number is one under which something may be written
 
-pub first_of_least : (b3 b2 b4 b5 : Bool) → first_of b3 b2 b4 b5 ≤ 5
-first_of_least true b2 b4 b5 = omega arith
-first_of_least false true b4 b5 = omega arith
-first_of_least false false true b5 = omega arith
-first_of_least false false false true = omega arith
-first_of_least false false false false = omega arith
+pub decides_late : (k : ℕ) → Decides (late k) (Late k)
+decides_late k = decides_as (decides_either (decides_either (decides_equal k 0) (decides_equal k 6)) (decides_equal k 7)) to back
+  where
+    to : ((k ≡ 0) ⊎ (k ≡ 6)) ⊎ (k ≡ 7) → Late k
+    to (inl (inl e)) = inl e
+    to (inl (inr e)) = inr (inl e)
+    to (inr e) = inr (inr e)
 
-pub gate_least : (s : State) (work : List Float) (q0 q1 : ℕ) (gate : List (List Complex)) → gate_refusal s work q0 q1 gate ≤ 5
-gate_least s work q0 q1 gate =
-    first_of_least (not (sound s.chain)) (short s.chain s.store work) (outside s.chain q0 || outside s.chain q1 || eqb q0 q1) (not (all_finite gate))
+    back : Late k → ((k ≡ 0) ⊎ (k ≡ 6)) ⊎ (k ≡ 7)
+    back (inl e) = inl (inl e)
+    back (inr (inl e)) = inl (inr e)
+    back (inr (inr e)) = inr e
 
--- none of the four tests holds where no ground refuses
-pub record Passes (b3 b2 b4 b5 : Bool) : Type 0 where
+-- ---- the tests in the order 3, 2, 4, 9, 5
+
+-- the number of a call that does not run: one under which nothing is written
+pub first_among_early : (b3 b2 b4 b9 b5 : Bool) → eqb (first_among b3 b2 b4 b9 b5) 0 ≡ false → Early (first_among b3 b2 b4 b9 b5)
+first_among_early true b2 b4 b9 b5 e = (decides_late 3).fails
+first_among_early false true b4 b9 b5 e = (decides_late 2).fails
+first_among_early false false true b9 b5 e = (decides_late 4).fails
+first_among_early false false false true b5 e = (decides_late 9).fails
+first_among_early false false false false true e = (decides_late 5).fails
+first_among_early false false false false false e = absurd (false≢true (sym e))
+
+pub first_of_early : (b3 b2 b4 b5 : Bool) → eqb (first_of b3 b2 b4 b5) 0 ≡ false → Early (first_of b3 b2 b4 b5)
+first_of_early b3 b2 b4 b5 = first_among_early b3 b2 b4 false b5
+
+pub gate_early : (s : State) (work : List Float) (q0 q1 : ℕ) (gate : List (List Complex)) → eqb (gate_refusal s work q0 q1 gate) 0 ≡ false → Early (gate_refusal s work q0 q1 gate)
+gate_early s work q0 q1 gate =
+    first_of_early (not (sound s.chain)) (short s.chain s.store work) (outside s.chain q0 || outside s.chain q1 || eqb q0 q1) (not (all_finite gate))
+
+-- none of the tests holds where no ground refuses
+pub record Passes (b3 b2 b4 b9 b5 : Bool) : Type 0 where
   pub three : b3 ≡ false
   pub two : b2 ≡ false
   pub four : b4 ≡ false
+  pub nine : b9 ≡ false
   pub five : b5 ≡ false
 
-pub first_of_none : (b3 b2 b4 b5 : Bool) → eqb (first_of b3 b2 b4 b5) 0 ≡ true → Passes b3 b2 b4 b5
-first_of_none true b2 b4 b5 e = absurd (false≢true e)
-first_of_none false true b4 b5 e = absurd (false≢true e)
-first_of_none false false true b5 e = absurd (false≢true e)
-first_of_none false false false true e = absurd (false≢true e)
-first_of_none false false false false e = record { three = refl; two = refl; four = refl; five = refl }
+pub first_among_none : (b3 b2 b4 b9 b5 : Bool) → eqb (first_among b3 b2 b4 b9 b5) 0 ≡ true → Passes b3 b2 b4 b9 b5
+first_among_none true b2 b4 b9 b5 e = absurd (false≢true e)
+first_among_none false true b4 b9 b5 e = absurd (false≢true e)
+first_among_none false false true b9 b5 e = absurd (false≢true e)
+first_among_none false false false true b5 e = absurd (false≢true e)
+first_among_none false false false false true e = absurd (false≢true e)
+first_among_none false false false false false e = record { three = refl; two = refl; four = refl; nine = refl; five = refl }
+
+pub first_of_none : (b3 b2 b4 b5 : Bool) → eqb (first_of b3 b2 b4 b5) 0 ≡ true → Passes b3 b2 b4 false b5
+first_of_none b3 b2 b4 b5 = first_among_none b3 b2 b4 false b5
 
 -- ---- numbers: refused before anything is written, or else run
 
-pub above_zero : (k : ℕ) → eqb k 0 ≡ false → 1 ≤ k
-above_zero k e = let z = eqb-false k 0 e in omega arith
-
-pub early_late : {k : ℕ} → Early k → Late k → ⊥
-early_late e (inl z) = omega arith
-early_late e (inr z) = omega arith
-
--- a call answers its refusal k, or else what its run does: a number that is none from 1 to 5 is the run's
-pub run_late : {A : Type 0} (f : A → ℕ) (k : ℕ) (x y : A) → f y ≡ k → k ≤ 5 → Late (f (cond (eqb k 0) x y)) → eqb k 0 ≡ true
-run_late f k x y turned small = by_test (λ (a : _). Late (f a) → eqb k 0 ≡ true) (eqb k 0) x y (λ e l. e)
-    (λ e l. let z = eqb-false k 0 e in absurd (⊎_elim (λ (v : f y ≡ 0). z (sym turned ∙ v)) (λ (v : 6 ≤ f y). omega arith) l))
+-- a call answers its refusal k, under which nothing is written, or else what its run does: another number is the run's
+pub run_late : {A : Type 0} (f : A → ℕ) (k : ℕ) (x y : A) → f y ≡ k → (eqb k 0 ≡ false → Early k) → Late (f (cond (eqb k 0) x y)) → eqb k 0 ≡ true
+run_late f k x y turned early = by_test (λ (a : _). Late (f a) → eqb k 0 ≡ true) (eqb k 0) x y (λ e l. e) (λ e l. absurd (early e (subst Late turned l)))
 
 -- ---- what a projection, a measurement or a reset that is not refused has: a sound record, long slices and a qubit of the chain
 
@@ -158,7 +186,7 @@ pub record AcceptedReading (s : State) (work : List Float) (q : ℕ) : Type 0 wh
   pub site_below : site_of s.chain q < s.chain.num_qubits
 
 module _ (s : State) (work : List Float) (q : ℕ) where
-  reading_accepted : {four five : Bool} → (four ≡ false → outside s.chain q ≡ false) → Passes (not (sound s.chain)) (short s.chain s.store work) four five → AcceptedReading s work q
+  reading_accepted : {four five : Bool} → (four ≡ false → outside s.chain q ≡ false) → Passes (not (sound s.chain)) (short s.chain s.store work) four false five → AcceptedReading s work q
   reading_accepted inside p =
       let h = passes_sound s.chain p.three in
       let l = not_outside s.chain q (inside p.four) in
@@ -210,27 +238,31 @@ module _ (s : State) (work : List Float) where
 
   pub project_refusals : (q : ℕ) (o : Bool) → FirstGround (project_table s work q) (view_projected (project_call s work q o).answer).number
   unfolding project_call
-  project_refusals q o = subst (FirstGround (project_table s work q))
-      (sym (number_picked (λ (a : After Projected). (view_projected a.answer).number) (project_refusal s work q) 0 (project_run (site_of s.chain q) o s (cleared s.chain work)) _ (project_accepted (site_of s.chain q) o (readied (site_of s.chain q) s)) refl))
-      (first_of_three decides_3 decides_2 (decides_qubit q))
+  project_refusals q o =
+      table_answered (λ (a : After Projected). (view_projected a.answer).number) (project_table s work q) [] (project_refusal s work q) 0 (project_run (site_of s.chain q) o s (cleared s.chain work)) _
+      (project_accepted (site_of s.chain q) o (readied (site_of s.chain q) s)) refl tt
+      (test 3 decides_3 (test 2 decides_2 (test 4 (decides_qubit q) untested))) (λ z. refl)
 
   pub measure_refusals : (q flag : ℕ) (draw : Float) → FirstGround (measure_table s work q flag draw) (view_measured (measure_call s work q flag draw).answer).number
   unfolding measure_call
-  measure_refusals q flag draw = subst (FirstGround (measure_table s work q flag draw))
-      (sym (number_picked (λ (a : After Measured). (view_measured a.answer).number) (measure_refusal s work q flag draw) 0 (measure_run (site_of s.chain q) flag draw s (cleared s.chain work)) _ refl refl))
-      (first_of_lem [] 0 decides_3 decides_2 (decides_either (decides_qubit q) (decides_least 64 flag)) (decides_draw draw) (λ a b c d. refl))
+  measure_refusals q flag draw =
+      table_answered (λ (a : After Measured). (view_measured a.answer).number) (measure_table s work q flag draw) [] (measure_refusal s work q flag draw) 0 (measure_run (site_of s.chain q) flag draw s (cleared s.chain work)) _
+      refl refl tt
+      (test 3 decides_3 (test 2 decides_2 (test 4 (decides_either (decides_qubit q) (decides_least 64 flag)) (test 5 (decides_draw draw) untested)))) (λ z. refl)
 
   pub reset_refusals : (q : ℕ) (draw : Float) → FirstGround (reset_table s work q draw) (view_answer (reset_call s work q draw).answer).number
   unfolding reset_call
-  reset_refusals q draw = subst (FirstGround (reset_table s work q draw))
-      (sym (number_picked (λ (a : After Answer). (view_answer a.answer).number) (reset_refusal s work q draw) 0 (reset_run (site_of s.chain q) draw s (cleared s.chain work)) _ refl refl))
-      (first_of_lem [] 0 decides_3 decides_2 (decides_qubit q) (decides_draw draw) (λ a b c d. refl))
+  reset_refusals q draw =
+      table_answered (λ (a : After Answer). (view_answer a.answer).number) (reset_table s work q draw) [] (reset_refusal s work q draw) 0 (reset_run (site_of s.chain q) draw s (cleared s.chain work)) _
+      refl refl tt
+      (test 3 decides_3 (test 2 decides_2 (test 4 (decides_qubit q) (test 5 (decides_draw draw) untested)))) (λ z. refl)
 
   module _ (out : List Float) where
     environment_refusals : (end site : ℕ) (e : Env) → FirstGround (environment_table s work out end site) (view_contracted (env_after (env_refusal s work out end site) e s work out).answer).number
-    environment_refusals end site e = subst (FirstGround (environment_table s work out end site))
-        (sym (number_picked (λ (a : Walked). (view_contracted a.answer).number) (env_refusal s work out end site) 0 (env_run e s.chain work out) _ refl refl))
-        (first_of_three decides_3 (decides_either decides_2 (decides_below (length out) _)) (decides_either (decides_qubit end) (decides_below _ site)))
+    environment_refusals end site e =
+        table_answered (λ (a : Walked). (view_contracted a.answer).number) (environment_table s work out end site) [] (env_refusal s work out end site) 0 (env_run e s.chain work out) _
+        refl refl tt
+        (test 3 decides_3 (test 2 (decides_either decides_2 (decides_below (length out) _)) (test 4 (decides_either (decides_qubit end) (decides_below _ site)) untested))) (λ z. refl)
 
     pub left_environment_refusals : (from site : ℕ) → FirstGround (environment_table s work out from site) (view_contracted (left_environment_call s work out from site).answer).number
     unfolding left_environment_call

@@ -22,7 +22,7 @@ use Rattle.model.specs.Sound.{sound}
 use Rattle.model.specs.Calls.{After, short, outside, flagged, gate_refusal, gate_call, named_gate_call, project_refusal, project_call, measure_refusal, measure_call, reset_refusal, reset_call}
 use Rattle.model.specs.Statements.Table.{gate_steps}
 use Rattle.model.proofs.Laws.Labels.{sound_maps, sites_apart}
-use Rattle.model.proofs.Laws.Refusals.{project_passes, measure_passes, reset_passes, passes_sound, Passes, first_of_none, two_qubits}
+use Rattle.model.proofs.Laws.Refusals.{project_passes, measure_passes, reset_passes, passes_sound, first_of_none, two_qubits}
 use Rattle.model.specs.Statements.Soundness.{Sound}
 use Rattle.model.proofs.Laws.SoundChanges.{center_sound, bits_sound, recorded_sound, bond_sound, relabelled_sound, cut_rank_least, cut_rank_most}
 use Rattle.model.proofs.Laws.MoveLaws.{last_site, Narrowed, narrowed_none, narrowed_then, moved_narrowed, established_narrowed, readied_by, prepared_by_lem}
@@ -184,7 +184,7 @@ module _ (gate : List (List Complex)) (q0 q1 : ℕ) (s : State) (h : Sound s.cha
   gate_inside =
       route_inside s.chain.num_qubits gate (site_of s.chain q0) (site_of s.chain q1) (h.sites.below q0 l0) (h.sites.below q1 l1) (sites_apart (sound_maps s.chain h) q0 q1 l0 l1 two)
 
-  gate_run_keeps : Keeps s.chain (gate_run gate q0 q1 s).state.chain
+  pub gate_run_keeps : Keeps s.chain (gate_run gate q0 q1 s).state.chain
   unfolding gate_run
   gate_run_keeps = run_steps_keeps (gate_steps s q0 q1 gate) s h gate_inside
 
@@ -221,14 +221,12 @@ module _ (s : State) (work : List Float) (q0 q1 : ℕ) (gate : List (List Comple
   abbrev four : Bool
   four = outside s.chain q0 || outside s.chain q1 || eqb q0 q1
 
-  pub accepted_gate : Passes (not (sound s.chain)) (short s.chain s.store work) four (not (all_finite gate)) → AcceptedGate s work q0 q1 gate
-  accepted_gate p =
+  pub gate_accepted : eqb (gate_refusal s work q0 q1 gate) 0 ≡ true → AcceptedGate s work q0 q1 gate
+  gate_accepted e =
+      let p = first_of_none (not (sound s.chain)) (short s.chain s.store work) four (not (all_finite gate)) e in
       let h = passes_sound s.chain p.three in
       let t = two_qubits s.chain.num_qubits q0 q1 p.four in
       record { sound = h; long = p.two; first = t.0; second = t.1; two = t.2; inside = gate_inside gate q0 q1 s h t.0 t.1 t.2 }
-
-  pub gate_accepted : eqb (gate_refusal s work q0 q1 gate) 0 ≡ true → AcceptedGate s work q0 q1 gate
-  gate_accepted e = accepted_gate (first_of_none (not (sound s.chain)) (short s.chain s.store work) four (not (all_finite gate)) e)
 
 -- a call that is refused leaves the record, and one that is accepted leaves what its run does
 call_keeps : {A : Type 0} (c : Chain) (k : ℕ) (run back : After A) → (eqb k 0 ≡ true → Keeps c run.chain) → Keeps c back.chain → Keeps c (cond (eqb k 0) run back).chain

@@ -1,6 +1,6 @@
 -- Tests: what holds by a test's answer, tests joined, and tests that decide a proposition.
 use Rattle.std.specs.Prelude.{ℕ, zero, suc, ◌≤◌, ◌<◌, ◌≡◌, refl, ◌⊎◌, Bool, true, false, not, ◌&&◌, ◌||◌, cond, Float}
-use Rattle.std.proofs.Common.{arith, eq-or-lt_of_le, le_of_suc-le-suc, ap₂, subst, inl, inr, ⊎_elim, true≢false, leb-true, leb-false}
+use Rattle.std.proofs.Common.{arith, eq-or-lt_of_le, le_of_suc-le-suc, ap₂, subst, inl, inr, ⊎_elim, true≢false, leb-true, leb-false, sym}
 use Rattle.std.proofs.Math.Decide.{dec_lt}
 use lib.Dec.{T, leb, ltb, eqb}
 use Rattle.std.specs.Float.{nan, inf, fin}
@@ -81,6 +81,10 @@ pub decides_not : {b : Bool} {P : Type 0} → Decides b P → Decides (not b) (P
 decides_not {b = true} p = record { holds = absurd; fails = λ f. f (p.holds tt) }
 decides_not {b = false} p = record { holds = λ t x. p.fails x; fails = λ f. tt }
 
+pub decides_not_not : {b : Bool} {P : Type 0} → Decides b P → Decides (not (not b)) P
+decides_not_not {b = true} d = d
+decides_not_not {b = false} d = d
+
 pub decides_both : {a b : Bool} {P Q : Type 0} → Decides a P → Decides b Q → Decides (a && b) (P × Q)
 decides_both {a = true} p q = record { holds = λ t. (p.holds tt, q.holds t); fails = λ x. q.fails x.1 }
 decides_both {a = false} p q = record { holds = absurd; fails = λ x. p.fails x.0 }
@@ -104,6 +108,11 @@ test_true {b = false} d p = absurd (d.fails p)
 pub test_false : {b : Bool} {P : Type 0} → Decides b P → (P → ⊥) → b ≡ false
 test_false {b = true} d n = absurd (n (d.holds tt))
 test_false {b = false} d n = refl
+
+-- two tests of one ground
+pub decides_alike : {a b : Bool} {P : Type 0} → Decides a P → Decides b P → a ≡ b
+decides_alike {a = true} d e = sym (test_true e (d.holds tt))
+decides_alike {a = false} d e = sym (test_false e d.fails)
 
 -- ---- a test of every number below n, and of some
 

@@ -1,6 +1,6 @@
 -- DEMAND 1: what every call answers, and what it leaves of its record and slices, on all inputs. Where a gate stops that 6 or 7 refuses, `Demand1Cuts` says.
 -- Statements only; `Laws/Demand1Proofs` proves them.
-use Rattle.std.specs.Prelude.{ℕ, ◌*◌, ◌+◌, ◌-◌, ◌≤◌, ◌<◌, min, max, ◌≡◌, ◌⊎◌, ◌↔◌, Bool, not, List, T, length, take, drop, replicate, Float, Option, None, Some, Ok}
+use Rattle.std.specs.Prelude.{ℕ, ◌*◌, ◌+◌, ◌-◌, ◌≤◌, ◌<◌, min, max, ◌≡◌, ◌⊎◌, ◌↔◌, Bool, not, ◌||◌, List, [], ◌∷◌, T, eqb, length, take, drop, replicate, Float, Option, None, Some, Ok}
 use Rattle.std.specs.Float.{binary64}
 use Rattle.std.specs.Float.Ieee.{div, le}
 use Rattle.complex.specs.Complex.{zero_f}
@@ -11,13 +11,14 @@ use Rattle.model.specs.declared.Projected.{Projected}
 use Rattle.model.specs.declared.Projected.TheVariants as projected
 use Rattle.model.specs.Chain.{site_of}
 use Rattle.model.specs.Slots.{State, slot_of}
+use Rattle.model.specs.Layers.{Placed, layer_of}
 use Rattle.model.specs.Born.{weight_at, total_at, drawn_at, readied}
 use Rattle.model.specs.Environment.{Env, left_env, right_env}
 use Rattle.model.specs.Start.{zero_chain}
-use Rattle.model.specs.Answers.{view_answer, view_applied, view_projected, view_measured, view_contracted}
-use Rattle.model.specs.Calls.{After, Started, Walked, start_call, gate_call, named_gate_call, project_call, measure_call, reset_call, left_environment_call, right_environment_call}
+use Rattle.model.specs.Answers.{view_answer, view_applied, view_layered, view_projected, view_measured, view_contracted}
+use Rattle.model.specs.Calls.{After, Started, Walked, start_call, gate_call, named_gate_call, layer_call, project_call, measure_call, reset_call, left_environment_call, right_environment_call}
 use Rattle.model.specs.Lists.{left}
-use Rattle.model.specs.Statements.Table.{FirstGround, start_table, gate_table, project_table, measure_table, reset_table, environment_table}
+use Rattle.model.specs.Statements.Table.{FirstGround, start_table, gate_table, layer_table, project_table, measure_table, reset_table, environment_table}
 
 -- ---- the number: that of the first ground in the call's table; with none the call is accepted
 
@@ -28,6 +29,8 @@ pub record Numbered : Type 0 where
       FirstGround (gate_table s work q0 q1 gate) (view_applied (gate_call s work q0 q1 gate).answer).number
   pub named : (s : State) (work : List Float) (q0 q1 : ℕ) (name : NamedGate) →
       FirstGround (gate_table s work q0 q1 (matrix_of name)) (view_applied (named_gate_call s work q0 q1 name).answer).number
+  pub layer : (s : State) (work : List Float) (pairs : List ℕ) (gates : List Float) →
+      FirstGround (layer_table s work pairs gates) (view_layered (layer_call s work pairs gates).answer).number
   pub project : (s : State) (work : List Float) (q : ℕ) (o : Bool) → FirstGround (project_table s work q) (view_projected (project_call s work q o).answer).number
   pub measure : (s : State) (work : List Float) (q flag : ℕ) (draw : Float) →
       FirstGround (measure_table s work q flag draw) (view_measured (measure_call s work q flag draw).answer).number
@@ -39,12 +42,16 @@ pub record Numbered : Type 0 where
 
 -- ---- what remains of record and slices
 
--- refused by 1 to 5, where nothing is written; and accepted, or refused by 6 or 7
-abbrev pub Early : ℕ → Type 0
-Early number = (1 ≤ number) × (number ≤ 5)
-
+-- accepted, or refused by 6 or 7; and refused by any other number, where nothing is written
 abbrev pub Late : ℕ → Type 0
-Late number = (number ≡ 0) ⊎ (6 ≤ number)
+Late number = (number ≡ 0) ⊎ ((number ≡ 6) ⊎ (number ≡ 7))
+
+abbrev pub Early : ℕ → Type 0
+Early number = Late number → ⊥
+
+-- the test
+abbrev pub late : ℕ → Bool
+late number = eqb number 0 || eqb number 6 || eqb number 7
 
 -- the work slice: as it was where nothing is written; else +0 as far as the call needs it; past that always as it was
 pub record WorkLeft (d number : ℕ) (before after : List Float) : Type 0 where
@@ -94,6 +101,15 @@ near_site s q0 q1 = min (site_of s.chain q0) (site_of s.chain q1)
 abbrev pub far_site : State → ℕ → ℕ → ℕ
 far_site s q0 q1 = max (site_of s.chain q0) (site_of s.chain q1)
 
+-- the lowest and the highest site of the qubits that a layer names
+abbrev pub nearest_of : State → List Placed → ℕ
+nearest_of s [] = s.chain.num_qubits - 1
+nearest_of s (x ∷ xs) = min (near_site s x.q0 x.q1) (nearest_of s xs)
+
+abbrev pub farthest_of : State → List Placed → ℕ
+farthest_of s [] = 0
+farthest_of s (x ∷ xs) = max (far_site s x.q0 x.q1) (farthest_of s xs)
+
 pub record Remains : Type 0 where
   pub start : (n d : ℕ) (epsilon clamp : Float) (exponent : ℕ) (store : List Float) →
       (let a = start_call n d epsilon clamp exponent store in StartLeaves n d (view_answer a.answer).number store a)
@@ -108,6 +124,8 @@ pub record Remains : Type 0 where
   pub unmoved_named : (s : State) (work : List Float) (q0 q1 : ℕ) (name : NamedGate) →
       (let a = named_gate_call s work q0 q1 name in
       a.chain.center ≡ None → StoreLeft s.chain.num_qubits s.chain.max_bond_dim (near_site s q0 q1) (far_site s q0 q1) s.store a.store)
+  pub layer : (s : State) (work : List Float) (pairs : List ℕ) (gates : List Float) →
+      (let a = layer_call s work pairs gates in let xs = layer_of pairs gates in Leaves s work (nearest_of s xs) (farthest_of s xs) (view_layered a.answer).number a)
   pub project : (s : State) (work : List Float) (q : ℕ) (o : Bool) →
       (let a = project_call s work q o in let k = site_of s.chain q in Leaves s work k k (view_projected a.answer).number a)
   pub measure : (s : State) (work : List Float) (q flag : ℕ) (draw : Float) →

@@ -13,11 +13,13 @@ use Rattle.model.specs.Slots.{State}
 use Rattle.model.specs.Svd.{Svd, values}
 use Rattle.model.specs.Truncation.{share}
 use Rattle.model.specs.Cut.{pair_of, rank_of}
-use Rattle.model.specs.Routing.{Step, stepped, run_steps}
-use Rattle.model.specs.Answers.{Applied, view_applied}
-use Rattle.model.specs.Calls.{After, gate_call, named_gate_call}
-use Rattle.model.specs.Lists.{Call, gate, named, project, measure, reset, left, state_of, final_state}
+use Rattle.model.specs.Layers.{Placed, layer_of}
+use Rattle.model.specs.Routing.{Step, stepped, run_steps, placed_run}
+use Rattle.model.specs.Answers.{Applied, view_applied, view_layered}
+use Rattle.model.specs.Calls.{After, gate_call, named_gate_call, layer_call}
+use Rattle.model.specs.Lists.{Call, gate, named, layer, project, measure, reset, left, state_of, final_state}
 use Rattle.model.specs.Statements.Table.{AboveWorkspace, NanIn, gate_steps}
+use Rattle.model.specs.Statements.Demand1.{late}
 use Rattle.model.specs.Statements.Pinned.{last_in}
 
 -- ---- the shares of the cuts that are stored
@@ -43,13 +45,21 @@ unfoldable pub shares_of : List Step → State → List Dropped
 shares_of [] s = []
 shares_of (x ∷ xs) s = cond (eqb (stepped x s).refused 0) (map (dropped_at x.site) (cut_share x.gate x.site s) ++ shares_of xs (stepped x s).state) []
 
--- of a call, by the number that it answers: a gate that is refused by 1 to 5 makes no cut
+-- of a call, by the number that it answers: a gate that is refused by another number than 6 or 7 makes no cut
 abbrev pub unless_early : ℕ → List Dropped → List Dropped
-unless_early number shares = cond (leb 1 number && leb number 5) [] shares
+unless_early number shares = cond (late number) shares []
+
+-- of the gates of a layer in turn: one that is refused ends it
+unfoldable pub layer_shares : List Placed → State → List Dropped
+layer_shares [] s = []
+layer_shares (x ∷ xs) s =
+    let r = placed_run x s in
+    shares_of (gate_steps s x.q0 x.q1 x.gate) s ++ cond (eqb r.refused 0) (layer_shares xs r.state) []
 
 unfoldable pub call_shares : Call → State → List Dropped
 call_shares (gate q0 q1 g work) s = unless_early (view_applied (gate_call s work q0 q1 g).answer).number (shares_of (gate_steps s q0 q1 g) s)
 call_shares (named q0 q1 name work) s = unless_early (view_applied (named_gate_call s work q0 q1 name).answer).number (shares_of (gate_steps s q0 q1 (matrix_of name)) s)
+call_shares (layer pairs gates work) s = unless_early (view_layered (layer_call s work pairs gates).answer).number (layer_shares (layer_of pairs gates) s)
 call_shares (project q o work) s = []
 call_shares (measure q flag draw work) s = []
 call_shares (reset q draw work) s = []
@@ -75,7 +85,7 @@ abbrev pub discarded_at : ℕ → State → Float
 discarded_at k s = bond_discarded s.chain k
 
 -- ---- (e) The discarded weight after a call, refused or not, is the weight before with the shares of the call's stored cuts added in their order, the swaps' cuts
--- included. A call that is no gate, or that 3, 2, 4 or 5 refuse, has no shares; a gate that 6 or 7 refuse has those of the cuts before.
+-- included. A call that makes no gate, or that 3, 2, 4, 9 or 5 refuse, has no shares; a gate or a layer that 6 or 7 stop has those of the cuts before.
 
 unfoldable pub WeightOfCall : Type 0
 WeightOfCall = (c : Call) (s : State) → discarded (state_of c s) ≡ foldl (add binary64) (discarded s) (of_chain (call_shares c s))
@@ -119,6 +129,11 @@ labels_after l q0 q1 =
       qubits = tabulate (length l.qubits) (λ k. get_or l.qubits (site_before (min p q) (max p q) k) 0);
     }
 
+-- and after gates in turn
+abbrev pub labels_through : List Placed → Labels → Labels
+labels_through [] l = l
+labels_through (x ∷ xs) l = labels_through xs (labels_after l x.q0 x.q1)
+
 -- ---- (f) A gate that is refused at a cut leaves what the cuts before it left, and its labels and its discarded weight are those of the cuts before
 
 -- by 6: the cut is untouched; t is the state that the cuts before it left
@@ -145,7 +160,7 @@ pub record StopsAt (steps : List Step) (s : State) (a : After Applied) : Type 0 
 -- a gate on q0 and q1: done, with the labels of the closed form, or stopped
 pub record GateEnds (s : State) (q0 q1 : ℕ) (g : List (List Complex)) (a : After Applied) : Type 0 where
   pub done : (view_applied a.answer).number ≡ 0 → labels_of a.chain ≡ labels_after (labels_of s.chain) q0 q1
-  pub stopped : 6 ≤ (view_applied a.answer).number → StopsAt (gate_steps s q0 q1 g) s a
+  pub stopped : ((view_applied a.answer).number ≡ 6) ⊎ ((view_applied a.answer).number ≡ 7) → StopsAt (gate_steps s q0 q1 g) s a
 
 pub record Stops : Type 0 where
   pub gate : (s : State) (work : List Float) (q0 q1 : ℕ) (g : List (List Complex)) → GateEnds s q0 q1 g (gate_call s work q0 q1 g)

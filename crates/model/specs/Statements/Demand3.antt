@@ -1,8 +1,8 @@
 -- DEMAND 3. On a fresh chain of two or more qubits with workspace exponent 5 or more, every list of calls whose gates only move bits and phases answers as the
 -- bits-and-phase machine does, and leaves the chain following it. Statements only; `Laws/Demand3Proof` proves it. Its last sentence, of two gates and their product, stands in `Product`.
-use Rattle.std.specs.Prelude.{ℕ, ◌+◌, ◌-◌, ◌≤◌, ◌<◌, ◌≡◌, List, [], ◌∷◌, T, length, Float, Ok}
+use Rattle.std.specs.Prelude.{ℕ, ◌+◌, ◌-◌, ◌≤◌, ◌<◌, ◌≡◌, List, [], ◌∷◌, T, length, get_or, Float, Ok}
 use mathlib.Core.Bool.{Bool, not, cond}
-use Rattle.std.specs.Float.{binary64}
+use Rattle.std.specs.Float.{nan, binary64}
 use Rattle.std.specs.Float.Ieee.{fits}
 use Rattle.complex.specs.Complex.{mul_c, is_zero, zero_f, one_f}
 use Rattle.complex.specs.Loops.{each}
@@ -14,7 +14,7 @@ use Rattle.model.specs.Slots.{State, held, work_room, site_at, amplitude}
 use Rattle.model.specs.Born.{bit_of, weight_at, readied}
 use Rattle.model.specs.Phases.{phase_c, equals}
 use Rattle.model.specs.Calls.{start_call, project_call}
-use Rattle.model.specs.Lists.{Call, gate, named, project, measure, reset, final_state, answers_of}
+use Rattle.model.specs.Lists.{Call, gate, named, layer, project, measure, reset, final_state, answers_of}
 use Rattle.model.specs.Machine.{Machine, fresh, machine_answers, machine_after, all_allowed}
 
 -- ---- what the program's types say: each f64 handed in is a value of binary64
@@ -25,6 +25,7 @@ F64 x = T (fits binary64 x)
 abbrev pub F64s : Call → Type 0
 F64s (gate q0 q1 g work) = (r c : ℕ) → r < 4 → c < 4 → F64 (entry g r c).re × F64 (entry g r c).im
 F64s (named q0 q1 name work) = Unit
+F64s (layer pairs gates work) = (k : ℕ) → k < length gates → F64 (get_or gates k nan)
 F64s (project q o work) = Unit
 F64s (measure q flag draw work) = F64 draw
 F64s (reset q draw work) = F64 draw

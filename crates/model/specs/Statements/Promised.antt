@@ -21,6 +21,7 @@ use Rattle.model.specs.Statements.Product.{ProductClause, RunClause}
 use Rattle.model.specs.Statements.ZeroSigns.{ZeroSigns}
 use Rattle.model.specs.Statements.Uncapped.{NeverSix, AsAt63}
 use Rattle.model.specs.Statements.Reasons.{RankReasons, RankByReason, GateReasons}
+use Rattle.model.specs.Statements.Layers.{LayerAsGates, AtMost32}
 use Rattle.model.specs.Statements.Marked.{all_hold, table}
 
 pub record Promised : Type 0 where
@@ -74,5 +75,8 @@ pub record Promised : Type 0 where
   pub gate_reasons : GateReasons
   -- W6: the discarded weight of each bond
   pub bond_weights : BondWeights
+  -- W1: a layer of pairs in one call
+  pub layer_as_gates : LayerAsGates
+  pub at_most_32 : AtMost32
   -- the marked examples of documents 01 and 02
   pub marked : all_hold table ≡ true

@@ -1,7 +1,7 @@
 -- Document 01's table 'How a call is turned down': for each call its rows in the order in which they are tried, each a number and the ground on which it is answered.
 -- The grounds are propositions written from the document and the Rust, and cite none of the tests in the calls' definitions. What they cite of the definitions computes
--- values and states: a gate's entries; the pair's decomposition, its values and the rank that is kept; the moves of the centre; the route; and the state that a cut leaves.
-use Rattle.std.specs.Prelude.{ℕ, ◌+◌, ◌*◌, ◌^◌, ◌≤◌, ◌<◌, min, ◌≡◌, ◌⊎◌, false, List, [], ◌∷◌, T, negsuc, length, get_or, Float, Some}
+-- values and states: a gate's entries, a layer's pairs and gates; the pair's decomposition, its values and the rank that is kept; the moves of the centre; the route; and the state that a cut leaves.
+use Rattle.std.specs.Prelude.{ℕ, ◌+◌, ◌*◌, ◌^◌, ◌≤◌, ◌<◌, min, ◌≡◌, ◌⊎◌, false, List, [], ◌∷◌, ◌++◌, T, negsuc, length, get_or, Float, Some}
 use Rattle.std.specs.Float.{nan, inf, fin, binary64}
 use Rattle.std.specs.Float.Ieee.{mul, le, lt}
 use Rattle.complex.specs.Complex.{zero_f, one_f}
@@ -13,7 +13,8 @@ use Rattle.model.specs.Slots.{State, lefts, rights}
 use Rattle.model.specs.Svd.{Svd, values, raw_value}
 use Rattle.model.specs.Moves.{established, prepared_on}
 use Rattle.model.specs.Cut.{pair_of, rank_of}
-use Rattle.model.specs.Routing.{Step, route_of, steps_of, stepped}
+use Rattle.model.specs.Layers.{Placed, pair_count, first, second, gate_at, layer_of}
+use Rattle.model.specs.Routing.{Step, route_of, steps_of, stepped, placed_run}
 use Rattle.model.specs.Statements.Soundness.{Settings, Sound}
 
 -- ---- a table, and the number that it answers
@@ -77,6 +78,25 @@ NoGate gate = (r : ℕ) × (r < 4) × ((c : ℕ) × (c < 4) × (NotFinite (entry
 abbrev pub NoDraw : Float → Type 0
 NoDraw draw = T (le zero_f draw) × T (lt draw one_f) → ⊥
 
+-- ---- the same over all pairs of a layer, and 9: a qubit named by two of them (document 02, W1)
+
+-- no number of pairs has so many bytes and so many gate numbers
+abbrev pub Unpaired : List ℕ → List Float → Type 0
+Unpaired pairs gates = ((n : ℕ) × (length pairs ≡ 2 * n) × (length gates ≡ 32 * n)) → ⊥
+
+abbrev pub NoPairAt : Chain → List ℕ → Type 0
+NoPairAt c pairs = (p : ℕ) × (p < pair_count pairs) × NoPair c (first pairs p) (second pairs p)
+
+-- pair p names the qubit q
+abbrev pub Names : List ℕ → ℕ → ℕ → Type 0
+Names pairs p q = (q ≡ first pairs p) ⊎ (q ≡ second pairs p)
+
+abbrev pub NamedTwice : List ℕ → Type 0
+NamedTwice pairs = (p : ℕ) × (p < pair_count pairs) × ((r : ℕ) × (r < p) × ((q : ℕ) × Names pairs r q × Names pairs p q))
+
+abbrev pub NoGateAt : List ℕ → List Float → Type 0
+NoGateAt pairs gates = (p : ℕ) × (p < pair_count pairs) × NoGate (gate_at gates p)
+
 -- ---- 6 and 7: a cut between the sites k and k + 1
 
 -- its workspace, by the bonds that it meets, above 2 to the exponent
@@ -129,6 +149,11 @@ cut_rows (x ∷ xs) s = 6 when AboveWorkspace x.site s ∷ 7 when ((t : State) �
 abbrev pub gate_steps : State → ℕ → ℕ → List (List Complex) → List Step
 gate_steps s q0 q1 gate = steps_of gate (route_of (site_of s.chain q0) (site_of s.chain q1))
 
+-- pair by pair, the cuts of each gate in the state that the gates before it left
+abbrev pub layer_rows : List Placed → State → List Row
+layer_rows [] s = []
+layer_rows (x ∷ xs) s = cut_rows (gate_steps s x.q0 x.q1 x.gate) s ++ layer_rows xs (placed_run x s).state
+
 -- ---- the tables
 
 abbrev pub start_table : ℕ → ℕ → Float → Float → ℕ → List Float → List Row
@@ -141,6 +166,15 @@ gate_table s work q0 q1 gate =
     ∷ 4 when NoPair s.chain q0 q1
     ∷ 5 when NoGate gate
     ∷ cut_rows (gate_steps s q0 q1 gate) s
+
+abbrev pub layer_table : State → List Float → List ℕ → List Float → List Row
+layer_table s work pairs gates =
+    3 when Unsound s.chain
+    ∷ 2 when (ShortSlice s.chain s.store work ⊎ Unpaired pairs gates)
+    ∷ 4 when NoPairAt s.chain pairs
+    ∷ 9 when NamedTwice pairs
+    ∷ 5 when NoGateAt pairs gates
+    ∷ layer_rows (layer_of pairs gates) s
 
 abbrev pub project_table : State → List Float → ℕ → List Row
 project_table s work q = 3 when Unsound s.chain ∷ 2 when ShortSlice s.chain s.store work ∷ 4 when NoQubit s.chain q ∷ []
