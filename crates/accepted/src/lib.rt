@@ -1,20 +1,20 @@
 // What a call does that is not refused: its run at the front of the work slice, which is +0 afterwards. Reached through
 // `chain` alone. Each function lends that front and has it cleared: one for all, over a closure that makes the run, was
 // tried, and the proof didn't close, since a caller learns nothing of what the closure changes in `chain` and `store`.
-#![tactic(auto, using(std::proofs::lemmas::Bool::Decides::nat_tests, crate::specs::Accepted::sound_told, crate::specs::Accepted::ready_part, crate::specs::Accepted::cleared_front), unfolding(model::specs::Calls::gate_call, model::specs::Calls::project_call, model::specs::Calls::measure_call, model::specs::Calls::reset_call))]
+#![tactic(auto, using(std::proofs::lemmas::Bool::Decides::nat_tests, crate::specs::Accepted::sound_told, crate::specs::Accepted::ready_part, crate::specs::Accepted::cleared_front), unfolding(model::specs::Calls::gate_call, model::specs::Calls::layer_call, model::specs::Calls::project_call, model::specs::Calls::measure_call, model::specs::Calls::reset_call))]
 
 ghost use Rattle.std.specs.Prelude.{◌≡◌, ◌++◌, ◌≤◌, Ok, length, drop, replicate};
 ghost use Rattle.complex.specs.Complex.{zero_f};
 ghost use Rattle.model.specs.Slots.{held};
-ghost use Rattle.model.specs.Calls.{after, walked, gate_refusal, gate_call, project_refusal, project_call, measure_refusal, measure_call, reset_refusal, reset_call, env_refusal, left_environment_call, right_environment_call};
+ghost use Rattle.model.specs.Calls.{after, walked, gate_refusal, gate_call, layer_refusal, layer_call, project_refusal, project_call, measure_refusal, measure_call, reset_refusal, reset_call, env_refusal, left_environment_call, right_environment_call};
 
 use complex::Complex;
 use environments::{compute_left_env, compute_right_env, write_environment};
-use model::{Applied, Chain, Projected};
+use model::{Applied, Chain, Layered, Projected};
 use moves::Mps;
 use outcomes::{apply_measure, apply_reset, project_z_outcome};
 use refusals::work_room;
-use routing::apply_two_qubit_gate;
+use routing::{apply_layer, apply_two_qubit_gate};
 
 // The first numbers of the work slice become +0.
 fn clear_front(work: &mut [f64], room: usize)
@@ -45,6 +45,28 @@ pub fn run_gate(
         work: &mut work[..room],
     };
     let out = apply_two_qubit_gate(&mut mps, gate, q0, q1);
+    clear_front(work, room);
+    out
+}
+
+// A layer of pairs, one after the other.
+pub fn run_layer(
+    chain: &mut Chain,
+    store: &mut [f64],
+    work: &mut [f64],
+    pairs: &[u8],
+    gates: &[f64],
+) -> Layered
+    requires { layer_refusal (held chain.old store.old) work.old pairs.now gates.now ≡ 0 }
+    ensures { after result (held chain.new store.new) work.new ≡ layer_call (held chain.old store.old) work.old pairs.now gates.now }
+{
+    let room = work_room(chain.max_bond_dim);
+    let mut mps = Mps {
+        chain,
+        store,
+        work: &mut work[..room],
+    };
+    let out = apply_layer(&mut mps, pairs, gates);
     clear_front(work, room);
     out
 }

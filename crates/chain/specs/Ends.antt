@@ -8,13 +8,14 @@ use Rattle.complex.specs.declared.Complex.{Complex}
 use Rattle.gates.specs.declared.NamedGate.{NamedGate}
 use Rattle.gates.specs.Named.{matrix_of}
 use Rattle.model.specs.declared.Chain.{Chain}
+use Rattle.model.specs.declared.Layered.TheVariants as layered
 use Rattle.model.specs.declared.Projected.TheVariants as projected
 use Rattle.model.specs.Answers.{Answer, Applied, refusal_of}
 use Rattle.model.specs.Slots.{State, held, store_room}
 use Rattle.model.specs.Sound.{settings_fit, share01, sound}
 use Rattle.gates.specs.Finite.{all_finite}
 use Rattle.model.specs.Start.{fresh_chain, fresh_store, zero_chain}
-use Rattle.model.specs.Calls.{After, after, Started, started, start_call, gate_call, named_gate_call, project_call, measure_call, reset_call, walked, env_room, left_environment_call, right_environment_call, first_of, short, outside}
+use Rattle.model.specs.Calls.{After, after, Started, started, start_call, gate_call, named_gate_call, layer_call, project_call, measure_call, reset_call, walked, env_room, left_environment_call, right_environment_call, first_of, layer_number, short, outside}
 use Rattle.model.proofs.Laws.SoundFacts.{settings_facts}
 
 -- ---- a refused call: its number, by the answer of the tests
@@ -41,6 +42,11 @@ module _ (c : Chain) (store work : List Float) (k : ℕ) where
       → after (Err k) (held c store) work ≡ gate_call (held c store) work q0 q1 gate
   unfolding gate_call
   gate_refused q0 q1 gate proper e = rw e (turned (λ (n : ℕ). after (Err n) (held c store) work) _ k _)
+
+  pub layer_refused : (pairs : List ℕ) (gates : List Float) → ◌≡◌ {A = Answer} (Err k) (refusal_of (layer_number c (short c store work) pairs gates))
+      → after (layered.Refused k) (held c store) work ≡ layer_call (held c store) work pairs gates
+  unfolding layer_call
+  layer_refused pairs gates = turned (λ (n : ℕ). after (layered.Refused n) (held c store) work) _ k _
 
   pub project_refused : (q : ℕ) (o : Bool) → ◌≡◌ {A = Answer} (Err k) (refusal_of (first_of (not (sound c)) (short c store work) (outside c q) false))
       → after (projected.Refused k) (held c store) work ≡ project_call (held c store) work q o

@@ -7,19 +7,20 @@
 ghost use Rattle.std.specs.Prelude.{◌≡◌};
 ghost use Rattle.model.specs.Slots.{held};
 ghost use Rattle.model.specs.Start.{zero_chain};
-ghost use Rattle.model.specs.Calls.{after, started, walked, start_call, gate_call, named_gate_call, project_call, measure_call, reset_call, left_environment_call, right_environment_call};
+ghost use Rattle.model.specs.Calls.{after, started, walked, start_call, gate_call, named_gate_call, layer_call, project_call, measure_call, reset_call, left_environment_call, right_environment_call};
 
 use accepted::{
-    run_gate, run_left_environment, run_measure, run_project, run_reset, run_right_environment,
+    run_gate, run_layer, run_left_environment, run_measure, run_project, run_reset,
+    run_right_environment,
 };
 use complex::Complex;
 use fresh::{fresh_chain, fresh_store, zero_chain};
 use gates::{NamedGate, is_finite};
 use model::{
-    After, Answer, Applied, Chain, Contracted, Gated, Measured, Measurement, Projected, Projection,
-    Reset, Start,
+    After, Answer, Applied, Chain, Contracted, Gated, LayerRun, Layered, Measured, Measurement,
+    Projected, Projection, Reset, Start,
 };
-use refusals::{call_refusal, start_refusal, walk_refusal};
+use refusals::{call_refusal, layer_refusal, start_refusal, walk_refusal};
 use sound::is_share;
 
 // ---- the fresh chain
@@ -104,6 +105,26 @@ pub fn apply_named_gate(
 {
     let gate = name.matrix_4x4();
     apply_gate(chain, store, work, q0, q1, gate)
+}
+
+// Gates on pairs of qubits, no qubit in two of them, one after the other: two bytes a pair in `pairs`, 32 numbers a pair
+// in `gates`, rows in order. As in a projection, a refusal is one of three answers that stand side by side.
+#[tactic(auto, using(crate::specs::Ends::layer_refused))]
+pub fn apply_layer(
+    chain: Chain,
+    store: &mut [f64],
+    work: &mut [f64],
+    pairs: &[u8],
+    gates: &[f64],
+) -> LayerRun
+    ensures { after result.answer (held result.chain store.new) work.new ≡ layer_call (held chain store.old) work.old pairs.now gates.now }
+{
+    let mut chain = chain;
+    let answer = match layer_refusal(&chain, store.len(), work.len(), pairs, gates) {
+        Ok(()) => run_layer(&mut chain, store, work, pairs, gates),
+        Err(number) => Layered::Refused(number),
+    };
+    After { answer, chain }
 }
 
 // ---- outcomes

@@ -5,8 +5,9 @@ ghost use Rattle.std.specs.Prelude.{◌≡◌, ◌||◌, not, cond, false, ◌�
 ghost use Rattle.model.specs.Slots.{store_room, work_room};
 ghost use Rattle.model.specs.Sound.{settings_fit, sound};
 ghost use Rattle.model.specs.Answers.{refusal_of};
-ghost use Rattle.model.specs.Calls.{first_of, env_room};
+ghost use Rattle.model.specs.Calls.{first_of, layer_number, env_room};
 
+use layers::{gates_finite, lengths_agree, pairs_apart, pairs_fit};
 use model::{Answer, Chain};
 use sound::{is_sound, settings_fit};
 
@@ -84,6 +85,31 @@ pub fn call_refusal(
     }
     let short = is_short(chain.num_qubits, chain.max_bond_dim, store, work);
     first_of(short, outside, improper)
+}
+
+// Of a layer of pairs. Each test is of the whole layer, and is made where those before it passed.
+#[tactic(auto, using(crate::specs::Ranges::sound_passed))]
+pub fn layer_refusal(chain: &Chain, store: usize, work: usize, pairs: &[u8], gates: &[f64]) -> Answer
+    ensures { result ≡ refusal_of (layer_number chain.now (ltb store (store_room chain.now.num_qubits chain.now.max_bond_dim) || ltb work (work_room chain.now.max_bond_dim)) pairs.now gates.now) }
+{
+    if !is_sound(chain) {
+        return Err(3);
+    }
+    let n = chain.num_qubits;
+    if is_short(n, chain.max_bond_dim, store, work) | !lengths_agree(pairs.len(), gates.len()) {
+        return Err(2);
+    }
+    if !pairs_fit(pairs, n) {
+        return Err(4);
+    }
+    if !pairs_apart(pairs, n) {
+        return Err(9);
+    }
+    if gates_finite(gates, pairs.len() / 2) {
+        Ok(())
+    } else {
+        Err(5)
+    }
 }
 
 // Of an environment walk, with a result slice of length `out` too.

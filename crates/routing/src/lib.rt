@@ -1,18 +1,22 @@
-// A gate routed to its two qubits: swaps of neighbouring sites with their labels, then the gate.
+// A gate routed to its two qubits: swaps of neighbouring sites with their labels, then the gate. And the gates of a layer
+// in turn.
 #![tactic(auto)]
 
 ghost use Rattle.std.specs.Prelude.{◌≡◌, ◌≢◌, cond, ◌+◌, ◌-◌, ◌<◌, ltb};
 ghost use Rattle.gates.specs.Gate.{swap_gate_qubits};
-ghost use Rattle.model.specs.Routing.{relabelled, swap_step, stepped, gate_run, gate_reason};
+ghost use Rattle.model.specs.Layers.{pair_count, layer_of};
+ghost use Rattle.model.specs.Routing.{relabelled, swap_step, stepped, gate_run, gate_reason, layer_ran, layer_run};
 ghost use Rattle.model.specs.Statements.Soundness.{Sound};
 ghost use Rattle.moves.specs.Mps.{state, Same};
 ghost use Rattle.cuts.specs.Answered.{answered, answered_by};
 ghost use Rattle.routing.specs.Runs.{passed, passed_by, swaps_down, routed_gate, routed_reason};
+ghost use Rattle.routing.specs.Pairs.{Layer, pair_run, pair_reason};
 
 use complex::Complex;
 use cuts::apply_adjacent_two_qubit;
 use gates::{NamedGate, swap_gate_qubits};
-use model::{Answer, Applied, Chain};
+use layers::{gate_at, qubits_at};
+use model::{Answer, Applied, Chain, Layered};
 use moves::Mps;
 
 // ---- swaps
@@ -87,4 +91,32 @@ pub fn apply_two_qubit_gate(mps: &mut Mps, gate: [[Complex; 4]; 4], q0: usize, q
     let q = usize::from(mps.chain.logical_to_site[q1]);
     let turned = gate_between(gate, p, q);
     route_gate(mps, turned, p.min(q), p.max(q))
+}
+
+// ---- the gates of a layer
+
+// Pair p of a layer.
+fn apply_pair(mps: &mut Mps, pairs: &[u8], gates: &[f64], p: usize) -> Applied
+    requires layer { Layer mps.old.chain.now.num_qubits pairs.now gates.now }
+    requires p_bound { p < pair_count pairs.now }
+    ensures value { let s = state mps.old in answered result (state mps.new) ≡ answered_by (pair_reason pairs.now gates.now p s) (pair_run pairs.now gates.now p s) }
+    ensures place { Same mps.old mps.new }
+{
+    let (q0, q1) = qubits_at(pairs, p);
+    let gate = gate_at(gates, p);
+    apply_two_qubit_gate(mps, gate, q0, q1)
+}
+
+// All pairs in turn, up to the first that is refused.
+pub fn apply_layer(mps: &mut Mps, pairs: &[u8], gates: &[f64]) -> Layered
+    requires { Layer mps.old.chain.now.num_qubits pairs.now gates.now }
+    ensures value { layer_ran result (state mps.new) ≡ layer_run 0 (layer_of pairs.now gates.now) (state mps.old) }
+    ensures place { Same mps.old mps.new }
+{
+    for p in 0..pairs.len() / 2 {
+        if let Err(number) = apply_pair(mps, pairs, gates, p) {
+            return Layered::Stopped(number, p);
+        }
+    }
+    Layered::Done
 }
