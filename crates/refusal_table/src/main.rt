@@ -1,11 +1,10 @@
-// One refused call for each row of the table in docs/REFUSALS.md, in its order, and the line that a run record of that
-// kind would print.
+// One refused call for each row of the table in docs/REFUSALS.md, in its order, and a layer that stops at its second pair:
+// the call's name, the number, and the pair.
 #![tactic(auto)]
 
-use chain::{apply_named_gate, measure, start};
+use chain::{apply_layer, apply_named_gate, measure, start};
 use gates::NamedGate;
-use lines::{Detail, Line, print_line};
-use model::Chain;
+use model::{Chain, Layered};
 use record::read_record;
 use std::io;
 use std::io::Write;
@@ -86,27 +85,70 @@ fn unknown_kind() -> u8 {
     }
 }
 
-fn show<W: Write>(writer: &mut W, kind: u8, number: u8) -> io::Result<()> {
-    print_line(
-        writer,
-        Line {
-            kind,
-            number,
-            detail: Detail::Empty,
-        },
-    )
+// A layer of two pairs on a fresh chain of four qubits, exponent 5. Both gates have ones at (0, 0) and (3, 0) alone, and
+// make a bond of 2.
+fn two_pairs(store: &mut [f64], work: &mut [f64], pairs: [u8; 4]) -> Layered {
+    let mut gates = [0.0; 64];
+    gates[0] = 1.0;
+    gates[24] = 1.0;
+    gates[32] = 1.0;
+    gates[56] = 1.0;
+    let fresh = start(4, 2, 0.0, 0.0, 5, store);
+    apply_layer(fresh.chain, store, work, &pairs, &gates).answer
+}
+
+// 9: qubit 1 in both pairs.
+fn named_twice(store: &mut [f64], work: &mut [f64]) -> Layered {
+    two_pairs(store, work, [0, 1, 2, 1])
+}
+
+// 6 at pair 1: qubit 3 is swapped across the bond of 2 that pair 0 makes, which needs 42 numbers.
+fn stopped_at_a_pair(store: &mut [f64], work: &mut [f64]) -> Layered {
+    two_pairs(store, work, [1, 2, 0, 3])
+}
+
+// ---- the lines
+
+fn show<W: Write>(writer: &mut W, call: &str, number: u8) -> io::Result<()> {
+    writeln!(writer, "{call} {number}")
+}
+
+fn show_layer<W: Write>(writer: &mut W, answer: Layered) -> io::Result<()> {
+    match answer {
+        Layered::Done => show(writer, "apply_layer", 0),
+        Layered::Refused(number) => show(writer, "apply_layer", number),
+        Layered::Stopped(number, pair) => writeln!(writer, "apply_layer {number} at pair {pair}"),
+    }
 }
 
 fn main(rt: HostRuntime) -> io::Result<()> {
     let mut writer = rt.stdout();
     let mut store = [0.0; 512];
     let mut work = [0.0; 1344];
-    show(&mut writer, 1, setting_out_of_range(&mut store))?;
-    show(&mut writer, 1, short_store())?;
-    show(&mut writer, 3, unsound_record(&mut store, &mut work))?;
-    show(&mut writer, 3, doubled_qubit(&mut store, &mut work))?;
-    show(&mut writer, 5, draw_of_one(&mut store, &mut work))?;
-    show(&mut writer, 3, above_workspace(&mut store, &mut work))?;
-    show(&mut writer, 3, stored_nan(&mut store, &mut work))?;
-    show(&mut writer, 0, unknown_kind())
+    show(&mut writer, "start", setting_out_of_range(&mut store))?;
+    show(&mut writer, "start", short_store())?;
+    show(
+        &mut writer,
+        "apply_named_gate",
+        unsound_record(&mut store, &mut work),
+    )?;
+    show(
+        &mut writer,
+        "apply_named_gate",
+        doubled_qubit(&mut store, &mut work),
+    )?;
+    show(&mut writer, "measure", draw_of_one(&mut store, &mut work))?;
+    show(
+        &mut writer,
+        "apply_named_gate",
+        above_workspace(&mut store, &mut work),
+    )?;
+    show(
+        &mut writer,
+        "apply_named_gate",
+        stored_nan(&mut store, &mut work),
+    )?;
+    show(&mut writer, "read_record", unknown_kind())?;
+    show_layer(&mut writer, named_twice(&mut store, &mut work))?;
+    show_layer(&mut writer, stopped_at_a_pair(&mut store, &mut work))
 }
