@@ -28,7 +28,7 @@ use Rattle.model.specs.Statements.Soundness.{Sound}
 use Rattle.model.proofs.Laws.MoveLaws.{Apart, apart_at, apart_then}
 use Rattle.model.proofs.Laws.RunLaws.{Room, Reach, Within, within_room, readied_within, route_spans, Unmoved, run_steps_within, run_steps_unmoved, projected_at_apart, reset_at_apart}
 use Rattle.model.proofs.Laws.Labels.{sound_maps, sites_apart}
-use Rattle.model.proofs.Laws.Refusals.{project_passes, measure_passes, reset_passes, applied_number, decides_short, project_accepted, first_of_early, gate_early}
+use Rattle.model.proofs.Laws.Refusals.{project_passes, measure_passes, reset_passes, applied_number, decides_short, first_of_early, gate_early, project_accepted}
 use Rattle.model.proofs.Laws.SoundKept.{AcceptedGate, gate_accepted}
 use Rattle.model.proofs.Laws.CutEnds.{Attempted, attempted, above, nan, again, stored, stepped_number}
 use Rattle.model.proofs.Laws.Tests.{by_test, decides_false, either_way}

@@ -22,14 +22,14 @@ use Rattle.model.specs.Born.{weight_at, unless_clamped, projected_at, reset_at, 
 use Rattle.model.specs.Environment.{left_env, right_env}
 use Rattle.model.specs.Sound.{settings_fit, bonds_fit, sized, sound}
 use Rattle.model.specs.Start.{fresh_chain}
-use Rattle.model.specs.Answers.{View, view_answer, view_applied, view_projected, view_measured, view_layered}
-use Rattle.model.specs.Calls.{After, after, cleared, Started, start_call, gate_refusal, gate_call, named_gate_call, project_refusal, project_call, measure_refusal, measure_call, reset_refusal, reset_call, left_environment_call, right_environment_call, layer_refusal, layer_call}
-use Rattle.model.specs.Lists.{Call, gate, named, project, measure, reset, left, answer_of, state_of, answers_of, final_state, layer}
+use Rattle.model.specs.Answers.{View, view_answer, view_applied, view_layered, view_projected, view_measured}
+use Rattle.model.specs.Calls.{After, after, cleared, Started, start_call, gate_refusal, gate_call, named_gate_call, layer_refusal, layer_call, project_refusal, project_call, measure_refusal, measure_call, reset_refusal, reset_call, left_environment_call, right_environment_call}
+use Rattle.model.specs.Lists.{Call, gate, named, layer, project, measure, reset, left, answer_of, state_of, answers_of, final_state}
 use Rattle.model.specs.Statements.Table.{gate_steps}
 use Rattle.model.specs.Statements.Soundness.{Sound}
 use Rattle.model.specs.Statements.Uncapped.{with_exponent, under, AsAt63}
 use Rattle.model.proofs.Laws.MoveLaws.{last_site, established_narrowed}
-use Rattle.model.proofs.Laws.SoundKept.{narrowed_keeps, attempt_keeps, Inside, inside_first, inside_last, stepped_keeps, run_steps_keeps, gate_accepted, gate_inside}
+use Rattle.model.proofs.Laws.SoundKept.{narrowed_keeps, attempt_keeps, Inside, inside_first, inside_last, stepped_keeps, run_steps_keeps, gate_inside, gate_accepted}
 use Rattle.model.proofs.Laws.LayerRuns.{Fits, AllFit, layer_accepted, layer_fits, placed_run_keeps, layer_by}
 use Rattle.model.proofs.Laws.StartLaws.{start_accepted}
 use Rattle.model.proofs.Laws.WorkspaceEnough.{workspace_enough}

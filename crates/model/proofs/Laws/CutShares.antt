@@ -21,16 +21,16 @@ use Rattle.model.specs.Layers.{Placed, layer_of}
 use Rattle.model.specs.Routing.{Step, relabelled, follow, stepped, run_steps, gate_run, gate_reason, placed_run, layer_run}
 use Rattle.model.specs.Born.{drawn_at, readied}
 use Rattle.model.specs.Answers.{Answer, Applied, Measured, view_applied, view_layered}
-use Rattle.model.specs.Calls.{After, gate_refusal, gate_call, named_gate_call, project_refusal, project_call, measure_refusal, measure_call, reset_refusal, reset_call, layer_refusal, layer_call}
-use Rattle.model.specs.Lists.{Call, gate, named, project, measure, reset, left, state_of, final_state, layer}
+use Rattle.model.specs.Calls.{After, gate_refusal, gate_call, named_gate_call, layer_refusal, layer_call, project_refusal, project_call, measure_refusal, measure_call, reset_refusal, reset_call}
+use Rattle.model.specs.Lists.{Call, gate, named, layer, project, measure, reset, left, state_of, final_state}
 use Rattle.model.specs.Statements.Table.{gate_steps}
 use Rattle.model.specs.Statements.Demand1.{Early, Late}
 use Rattle.model.specs.Statements.Pinned.{last_in}
-use Rattle.model.specs.Statements.Demand1Cuts.{Dropped, dropped_at, cut_svd, cut_share, shares_of, unless_early, call_shares, list_shares, of_chain, WeightOfCall, WeightOfList, layer_shares}
+use Rattle.model.specs.Statements.Demand1Cuts.{Dropped, dropped_at, cut_svd, cut_share, shares_of, unless_early, layer_shares, call_shares, list_shares, of_chain, WeightOfCall, WeightOfList}
 use Rattle.model.specs.Statements.Soundness.{Sound}
 use Rattle.model.proofs.Laws.Refusals.{AcceptedReading, project_passes, measure_passes, reset_passes, applied_number, decides_late, gate_early}
 use Rattle.model.proofs.Laws.AfterStates.{gate_run_late}
-use Rattle.model.proofs.Laws.SoundKept.{gate_accepted, Inside, stepped_keeps, readied_narrowed, projected_at_chain, reset_at_chain, relabelled_by, gate_inside}
+use Rattle.model.proofs.Laws.SoundKept.{gate_accepted, gate_inside, Inside, stepped_keeps, readied_narrowed, projected_at_chain, reset_at_chain, relabelled_by}
 use Rattle.model.proofs.Laws.LayerRuns.{Fits, AllFit, layer_early, layer_accepted, layer_fits, layer_by, layer_run_ended, ended_late}
 use Rattle.model.proofs.Laws.CutEnds.{cut_at, CutEnds, above, nan, stored, adjacent_ends, last_narrowed, refused_narrowed}
 use Rattle.model.proofs.Laws.Tests.{by_test, either_way, test_true, test_false}

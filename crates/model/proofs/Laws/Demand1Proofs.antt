@@ -15,7 +15,7 @@ use Rattle.model.specs.Answers.{Answer, Measured, view_answer, view_projected, v
 use Rattle.model.specs.Calls.{After, after, short, outside, cleared, project_refusal, project_run, project_call, measure_refusal, measure_run, measure_call, reset_refusal, reset_run, reset_call}
 use Rattle.model.specs.Statements.Demand1.{NothingExactly, Numbered, Remains, Clamped}
 use Rattle.model.proofs.Laws.SoundKept.{readied_keeps}
-use Rattle.model.proofs.Laws.Refusals.{AcceptedReading, project_passes, measure_passes, reset_passes, run_late, start_refusals, project_refusals, measure_refusals, reset_refusals, left_environment_refusals, right_environment_refusals, first_of_early}
+use Rattle.model.proofs.Laws.Refusals.{AcceptedReading, project_passes, measure_passes, reset_passes, run_late, first_of_early, start_refusals, project_refusals, measure_refusals, reset_refusals, left_environment_refusals, right_environment_refusals}
 use Rattle.model.proofs.Laws.Gates.{gate_refusals, named_refusals}
 use Rattle.model.proofs.Laws.LayerCalls.{layer_refusals, layer_leaves}
 use Rattle.model.proofs.Laws.AfterStates.{gate_leaves, gate_unmoved, named_leaves, named_unmoved, project_leaves, measure_leaves, reset_leaves}

@@ -1,6 +1,6 @@
 -- Demand 3 on a short list, computed from the calls' definitions and not by way of the theorem: a gate that flips both bits, twice, and a projection after each; and the same by layers.
 -- A chain that does only the first of the two gates, never moves a bit, or leaves out a layer's last pair, computes other answers.
-use Rattle.std.specs.Prelude.{◌≡◌, refl, true, false, cond, List, [], ◌∷◌, ◌+◌, eqb, replicate, Float, ◌/◌, ◌%◌}
+use Rattle.std.specs.Prelude.{◌≡◌, refl, true, false, cond, List, [], ◌∷◌, ◌+◌, ◌/◌, ◌%◌, eqb, replicate, Float}
 use Rattle.std.specs.Float.Ieee.{sub, mul, div, le, is_nan, of_bits, to_bits}
 use Rattle.complex.specs.Complex.{add_c, conj_c, mul_c, norm_sqr, scale_c, zero_f, one_f, zero_c}
 use Rattle.complex.specs.Loops.{each, between, tabulate, every}
@@ -26,8 +26,8 @@ use Rattle.model.specs.Born.{projected_site, projected_at}
 use Rattle.model.specs.Sound.{settings_fit, bonds_fit, undoes, discarded_fits, sized, sound}
 use Rattle.model.specs.Start.{fresh_chain, fresh_store}
 use Rattle.model.specs.Answers.{accepted, none, weight}
-use Rattle.model.specs.Calls.{gate_call, project_call, cleared, lengths_agree, pairs_fit, pairs_apart, gates_finite, layer_call}
-use Rattle.model.specs.Lists.{Call, gate, project, answers_of, layer}
+use Rattle.model.specs.Calls.{gate_call, lengths_agree, pairs_fit, pairs_apart, gates_finite, layer_call, project_call, cleared}
+use Rattle.model.specs.Lists.{Call, gate, layer, project, answers_of}
 
 abbrev work : List Float
 work = replicate (work_room 1) zero_f

@@ -1,11 +1,11 @@
 -- DEMAND 3, proved: the chain refuses as the machine does, an accepted call answers as the machine does and leaves the chain following it, and so does a list of calls from a fresh chain.
-use Rattle.std.specs.Prelude.{◌≡◌, Bool, ◌&&◌, ◌||◌, ◌≢◌, T, length, get_or, Float, Err, eqb}
-use Rattle.std.proofs.Math.Path.{refl, ap, subst, sym}
+use Rattle.std.specs.Prelude.{◌≡◌, Bool, ◌&&◌, ◌||◌, ◌≢◌, T, eqb, length, get_or, Float, Err}
+use Rattle.std.proofs.Math.Path.{refl, ap, sym, subst}
 use Rattle.std.proofs.Common.{◌∙◌, lit≤}
-use Rattle.std.proofs.Math.Bool.{true, false, not-not, cond, not}
+use Rattle.std.proofs.Math.Bool.{true, false, not, not-not, cond}
 use Rattle.std.specs.Bool.{beq}
 use mathlib.Core.List.{List, [], ◌∷◌}
-use Prim.Native.Nat.{ℕ, zero, suc, ◌+◌, ◌-◌, ◌*◌, ◌≤◌, ◌<◌, ◌%◌}
+use Prim.Native.Nat.{ℕ, zero, suc, ◌+◌, ◌-◌, ◌*◌, ◌%◌, ◌≤◌, ◌<◌}
 use Rattle.std.proofs.Math.Decide.{ℕ_discrete}
 use native.Mathlib.Omega.{arith}
 use Rattle.std.proofs.Math.Dec.{ltb, leb, eqb-suc-zero}
@@ -13,9 +13,9 @@ use Rattle.std.specs.Float.Ieee.{lt, le, neg, of_bits}
 use Rattle.std.specs.Float.Ieee.Bits.{is_true}
 use Rattle.std.specs.Float.Ieee.Fits.{and_l, and_r}
 use Rattle.std.specs.Float.Ieee.Scale.{finite}
-use borrow.Author.Tests.{leb-false, le-ltb, lt-leb, eqb-true, not-false}
+use borrow.Author.Tests.{leb-false, le-ltb, lt-leb, not-false, eqb-true}
 use Rattle.complex.specs.Complex.{mul_c, zero_f, one_f}
-use Rattle.complex.specs.Loops.{each, every, each_none, each_more, every_at}
+use Rattle.complex.specs.Loops.{each, each_none, each_more, every, every_at}
 use Rattle.complex.specs.Numbers.{at}
 use Rattle.complex.specs.declared.Complex.{Complex}
 use Rattle.gates.specs.Gate.{entry, gate_of, entry_gate_of}
@@ -34,12 +34,12 @@ use Rattle.model.specs.Routing.{gate_run, gate_reason, LayerRan, layer_run}
 use Rattle.model.specs.Born.{weight_at, drawn_at, projected_at, reset_at, readied}
 use Rattle.model.specs.Sound.{share01, sound}
 use Rattle.model.specs.Start.{fresh_chain, fresh_store}
-use Rattle.model.specs.Answers.{View, accepted, refused, none, weight, nothing, bit, view_answer, view_applied, view_projected, view_measured, view_layered}
-use Rattle.model.specs.Calls.{After, after, first_of, short, cleared, gate_refusal, project_refusal, measure_refusal, reset_refusal, gate_after, gate_call, named_gate_call, project_answer, project_run, project_call, flagged, measure_run, measure_call, reset_run, reset_call, Started, first_among, no_pair, pairs_fit, pairs_apart, gates_finite, layer_refusal, layer_after, layer_call}
-use Rattle.model.specs.Lists.{Call, gate, named, project, measure, reset, left, answer_of, state_of, answers_of, final_state, layer}
+use Rattle.model.specs.Answers.{View, accepted, refused, none, weight, nothing, bit, view_answer, view_applied, view_layered, view_projected, view_measured}
+use Rattle.model.specs.Calls.{After, after, first_among, first_of, short, cleared, no_pair, pairs_fit, pairs_apart, gates_finite, layer_refusal, layer_after, layer_call, gate_refusal, project_refusal, measure_refusal, reset_refusal, gate_after, gate_call, named_gate_call, project_answer, project_run, project_call, flagged, measure_run, measure_call, reset_run, reset_call, Started}
+use Rattle.model.specs.Lists.{Call, gate, named, layer, project, measure, reset, left, answer_of, state_of, answers_of, final_state}
 use Rattle.model.specs.Phases.{Phase, ◌⊗◌, one}
 use Rattle.model.specs.Machine as machine
-use Rattle.model.specs.Machine.{Machine, too_short, no_number, no_gate, no_draw, in_turn, refusal, reply, next, machine_answer, machine_next, machine_answers, machine_after, fresh, monomial, allowed, all_allowed, unpaired, pair_outside, gate_improper, named_twice, moved_at}
+use Rattle.model.specs.Machine.{Machine, too_short, no_number, no_gate, no_draw, unpaired, pair_outside, gate_improper, named_twice, in_turn, moved_at, refusal, reply, next, machine_answer, machine_next, machine_answers, machine_after, fresh, monomial, allowed, all_allowed}
 use Rattle.model.specs.Statements.Demand3.{F64, F64s, AllF64, entry_at, product, Follows, Demand3}
 use Rattle.model.proofs.Laws.CallsSound.{call_sound}
 use Rattle.model.specs.Statements.Soundness.{Settings, Sound}

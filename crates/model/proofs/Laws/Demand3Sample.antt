@@ -1,9 +1,9 @@
 -- Demand 3 has instances: three qubits, cap 1; gates by name and a gate by matrix whose entries are i, a projection kept and one that finds nothing, a measurement, a refused call, a reset; and layers, one of them refused.
 -- So has its product clause: two gates and their product with zeros of the other sign, and three gates whose product is a named one.
-use Rattle.std.specs.Prelude.{◌≡◌, refl, Bool, true, false, cond, ℕ, ◌+◌, T, eqb, replicate, negsuc, Float, Ok, ◌/◌, ◌%◌, get_or}
-use Rattle.std.proofs.Common.{◌∙◌, lit≤, arith}
+use Rattle.std.specs.Prelude.{◌≡◌, refl, Bool, true, false, cond, ℕ, ◌+◌, ◌/◌, ◌%◌, T, eqb, replicate, get_or, negsuc, Float, Ok}
+use Rattle.std.proofs.Common.{◌∙◌, arith, lit≤}
 use mathlib.Core.List.{List, [], ◌∷◌, ◌++◌, head-eq_of_cons-eq}
-use Rattle.std.specs.Float.{fin, nan, binary64}
+use Rattle.std.specs.Float.{fin, binary64, nan}
 use Rattle.std.specs.Float.Ieee.{fits, add, sub, mul, lt, le, eq, neg, of_bits}
 use Rattle.complex.specs.Complex.{add_c, mul_c, zero_f, one_f, zero_c, is_zero}
 use Rattle.complex.specs.Loops.{each, every, every_at}
@@ -17,7 +17,7 @@ use Rattle.model.specs.Layers.{gate_at}
 use Rattle.model.specs.Sound.{settings_fit}
 use Rattle.model.specs.Answers.{accepted, refused, none, weight, nothing, bit}
 use Rattle.model.specs.Calls.{start_call}
-use Rattle.model.specs.Lists.{Call, gate, named, project, measure, reset, answers_of, final_state, layer}
+use Rattle.model.specs.Lists.{Call, gate, named, layer, project, measure, reset, answers_of, final_state}
 use Rattle.model.specs.Phases.{phase, equals, is_phase, read_phase}
 use Rattle.model.specs.Machine.{Machine, fresh, refusal, nonzero_row, moved, reply, next, monomial, machine_answers, machine_after, all_allowed}
 use Rattle.model.specs.Statements.Demand3.{AllF64, Follows, Demand3}

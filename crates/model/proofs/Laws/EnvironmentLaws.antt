@@ -14,7 +14,7 @@ use Rattle.model.specs.Statements.Demand1.{Early, EnvironmentLeaves}
 use Rattle.model.specs.Statements.Soundness.{Sound}
 use Rattle.model.proofs.Laws.SoundFacts.{left_most, right_most}
 use Rattle.model.proofs.Laws.AfterStates.{work_kept, work_cleared, not_short}
-use Rattle.model.proofs.Laws.Refusals.{passes_sound, first_of_none, not_outside, first_of_early}
+use Rattle.model.proofs.Laws.Refusals.{passes_sound, first_of_early, first_of_none, not_outside}
 use Rattle.model.proofs.Laws.Tests.{by_test, neither}
 
 -- a square matrix whose dimension is at most d

@@ -1,7 +1,7 @@
 -- A gate: the number that it answers, by its table; and that it is done or stops at a cut, the proof of (f).
 use Rattle.std.specs.Prelude.{ℕ, ◌≤◌, ◌+◌, ◌<◌, ◌≡◌, ◌⊎◌, ◌≢◌, ◌||◌, Bool, true, false, List, [], ◌∷◌, ◌++◌, eqb, Float, Err}
 use Rattle.std.proofs.Math.Path.{refl, ap}
-use Rattle.std.proofs.Common.{sym, ◌∙◌, inl, inr, ⊎_elim, arith, subst, eq-eqb}
+use Rattle.std.proofs.Common.{sym, ◌∙◌, subst, inl, inr, ⊎_elim, arith, eq-eqb}
 use Rattle.std.proofs.Math.Bool.{cond}
 use Rattle.complex.specs.declared.Complex.{Complex}
 use Rattle.gates.specs.Named.{matrix_of}
@@ -14,12 +14,11 @@ use Rattle.model.specs.Routing.{gate_run, gate_reason, Step, stepped, run_steps}
 use Rattle.model.specs.Answers.{Applied, view_applied}
 use Rattle.model.specs.Calls.{After, outside, cleared, gate_refusal, gate_after, gate_call, named_gate_call, after, applied_of}
 use Rattle.model.specs.Cut.{Ran}
-use Rattle.model.specs.Lists.{gate, named}
-use Rattle.model.specs.Statements.Table.{◌when◌, AboveWorkspace, NanIn, FirstGround, NoPair, gate_table, gate_steps, cut_rows, Unsound, ShortSlice, NoGate}
+use Rattle.model.specs.Statements.Table.{◌when◌, Unsound, ShortSlice, NoGate, AboveWorkspace, NanIn, FirstGround, NoPair, gate_table, gate_steps, cut_rows}
 use Rattle.model.specs.Statements.Demand1.{Late}
 use Rattle.model.specs.Statements.Demand1Cuts.{StandsBySix, StandsBySeven, shares_of, StopsAt, GateEnds, Stops}
 use Rattle.model.proofs.Laws.SoundKept.{Inside, stepped_keeps, gate_accepted}
-use Rattle.model.proofs.Laws.Refusals.{decides_unsound, decides_short, decides_gate, applied_number, run_late, untested, test, first_then, table_answered, gate_early}
+use Rattle.model.proofs.Laws.Refusals.{decides_unsound, decides_short, decides_gate, applied_number, untested, test, first_then, table_answered, run_late, gate_early}
 use Rattle.model.proofs.Laws.CutEnds.{CutEnds, above, nan, stored, adjacent_ends, stepped_number, refused_narrowed, stepped_refused, run_on}
 use Rattle.model.specs.Statements.Soundness.{Sound}
 use Rattle.model.proofs.Laws.MoveLaws.{AsBefore}

@@ -1,5 +1,5 @@
 -- A layer of pairs: what one has that is not refused, and its run by an induction over its gates. The record stays sound; the run ends done, or stopped by 6 or 7.
-use Rattle.std.specs.Prelude.{ℕ, zero, suc, ◌+◌, ◌-◌, ◌<◌, ◌≡◌, refl, ◌⊎◌, ◌≢◌, Bool, true, false, not, ◌||◌, eqb, length, Float}
+use Rattle.std.specs.Prelude.{ℕ, zero, suc, ◌+◌, ◌<◌, ◌≡◌, refl, ◌⊎◌, ◌≢◌, Bool, true, false, not, ◌||◌, eqb, length, Float}
 use Rattle.std.proofs.Common.{arith, ap, inl, inr, T_not, eqb-true}
 use mathlib.Core.List.{List, [], ◌∷◌}
 use Rattle.std.specs.Float.Ieee.Bits.{is_true}

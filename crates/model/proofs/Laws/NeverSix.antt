@@ -10,13 +10,13 @@ use Rattle.model.specs.Layers.{layer_of}
 use Rattle.model.specs.Routing.{Step, stepped, gate_run}
 use Rattle.model.specs.Start.{fresh_chain}
 use Rattle.model.specs.Answers.{view_applied, view_layered}
-use Rattle.model.specs.Calls.{start_call, gate_call, named_gate_call, After, layer_refusal, layer_call}
-use Rattle.model.specs.Lists.{Call, gate, named, project, measure, reset, answer_of, final_state, layer}
+use Rattle.model.specs.Calls.{start_call, gate_call, named_gate_call, layer_refusal, layer_call, After}
+use Rattle.model.specs.Lists.{Call, gate, named, layer, project, measure, reset, answer_of, final_state}
 use Rattle.model.specs.Statements.Soundness.{Sound}
 use Rattle.model.specs.Statements.Table.{Row, FirstGround, cut_rows, gate_steps, project_table, measure_table, reset_table, environment_table}
 use Rattle.model.proofs.Laws.CallsSound.{start_accepted_sound, list_keeps}
 use Rattle.model.specs.Statements.Uncapped.{NeverSix}
-use Rattle.model.proofs.Laws.SoundKept.{Inside, stepped_keeps, gate_accepted, gate_inside}
+use Rattle.model.proofs.Laws.SoundKept.{Inside, stepped_keeps, gate_inside, gate_accepted}
 use Rattle.model.proofs.Laws.LayerRuns.{layer_early, layer_accepted, layer_fits, placed_run_keeps, layer_by}
 use Rattle.model.proofs.Laws.StartLaws.{start_accepted}
 use Rattle.model.proofs.Laws.Refusals.{project_refusals, measure_refusals, reset_refusals, left_environment_refusals, right_environment_refusals, without}

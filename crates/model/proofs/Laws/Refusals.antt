@@ -1,6 +1,6 @@
 -- Each call answers the number that its table gives.
-use Rattle.std.specs.Prelude.{ℕ, zero, suc, ◌<◌, ◌≡◌, ◌≢◌, ◌⊎◌, Bool, true, false, not, ◌||◌, cond, T, leb, ltb, eqb, length, Float, Ok, Err, ◌&&◌}
-use Rattle.std.proofs.Common.{arith, sym, ◌∙◌, inl, inr, leb-false, subst, ne_eqb}
+use Rattle.std.specs.Prelude.{ℕ, zero, suc, ◌<◌, ◌≡◌, ◌≢◌, ◌⊎◌, Bool, true, false, not, ◌&&◌, ◌||◌, cond, T, leb, ltb, eqb, length, Float, Ok, Err}
+use Rattle.std.proofs.Common.{arith, sym, ◌∙◌, subst, inl, inr, leb-false, ne_eqb}
 use Rattle.std.proofs.Math.Path.{refl}
 use Rattle.std.proofs.lemmas.Bool.{false≢true, eqb-false, not-false}
 use mathlib.Core.List.{List, [], ◌∷◌, ◌++◌}
@@ -23,12 +23,12 @@ use Rattle.model.specs.Answers.{Answer, Measured, view_answer, view_applied, vie
 use Rattle.model.specs.Born.{weight_at, total_at, readied}
 use Rattle.model.specs.Environment.{Env, left_env, right_env}
 use Rattle.model.specs.Start.{fresh_chain, fresh_store, zero_chain}
-use Rattle.model.specs.Calls.{After, applied_of, first_of, short, outside, cleared, started, start_call, gate_refusal, project_refusal, project_answer, project_run, project_call, measure_refusal, measure_run, measure_call, reset_refusal, reset_run, reset_call, Walked, env_refusal, env_run, env_after, left_environment_call, right_environment_call, first_among}
+use Rattle.model.specs.Calls.{After, applied_of, first_among, first_of, short, outside, cleared, started, start_call, gate_refusal, project_refusal, project_answer, project_run, project_call, measure_refusal, measure_run, measure_call, reset_refusal, reset_run, reset_call, Walked, env_refusal, env_run, env_after, left_environment_call, right_environment_call}
 use Rattle.model.specs.Statements.Demand1.{Early, Late, late}
 use Rattle.model.specs.Statements.Table.{Row, ◌when◌, FirstGround, OutOfRange, ShortStore, ShortSlice, Unsound, NoQubit, NotFinite, NoGate, NoDraw, start_table, project_table, measure_table, reset_table, environment_table}
 use Rattle.model.specs.Statements.Soundness.{Sound}
 use Rattle.model.proofs.Laws.SoundFacts.{settings_facts, facts_settings, sound_facts, facts_sound}
-use Rattle.model.proofs.Laws.Tests.{not_and, Decides, by_test, decides_as, decides_below, decides_both, decides_either, decides_least, decides_not, decides_self, decides_some, neither, decides_equal}
+use Rattle.model.proofs.Laws.Tests.{not_and, Decides, by_test, decides_as, decides_below, decides_both, decides_either, decides_equal, decides_least, decides_not, decides_self, decides_some, neither}
 
 -- ---- the first of the rows
 

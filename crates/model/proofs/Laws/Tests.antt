@@ -1,6 +1,6 @@
 -- Tests: what holds by a test's answer, tests joined, and tests that decide a proposition.
 use Rattle.std.specs.Prelude.{ℕ, zero, suc, ◌≤◌, ◌<◌, ◌≡◌, refl, ◌⊎◌, Bool, true, false, not, ◌&&◌, ◌||◌, cond, Float}
-use Rattle.std.proofs.Common.{arith, eq-or-lt_of_le, le_of_suc-le-suc, ap₂, subst, inl, inr, ⊎_elim, true≢false, leb-true, leb-false, sym}
+use Rattle.std.proofs.Common.{arith, eq-or-lt_of_le, le_of_suc-le-suc, sym, ap₂, subst, inl, inr, ⊎_elim, true≢false, leb-true, leb-false}
 use Rattle.std.proofs.Math.Decide.{dec_lt}
 use lib.Dec.{T, leb, ltb, eqb}
 use Rattle.std.specs.Float.{nan, inf, fin}

@@ -1,6 +1,6 @@
 -- DEMAND 1 of cuts. (e) What the discarded weight is after every call. (f) What a gate leaves that is done, and one that is refused at a cut.
 -- Statements only; `Laws/CutShares` and `Laws/Gates` prove them.
-use Rattle.std.specs.Prelude.{ℕ, ◌+◌, ◌-◌, ◌≤◌, min, max, ◌≡◌, ◌⊎◌, ◌&&◌, cond, eqb, ltb, leb, length, get_or, set, Float, Err}
+use Rattle.std.specs.Prelude.{ℕ, ◌+◌, ◌-◌, min, max, ◌≡◌, ◌⊎◌, ◌&&◌, cond, eqb, ltb, leb, length, get_or, set, Float, Err}
 use mathlib.Core.List.{List, [], ◌∷◌, ◌++◌, map, foldl}
 use Rattle.std.specs.Float.{binary64}
 use Rattle.std.specs.Float.Ieee.{add}
