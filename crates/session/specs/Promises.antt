@@ -1,19 +1,20 @@
 -- What is promised of a record's step: the text of its line in terms of the answer, and where reading stops.
 use Rattle.std.specs.Prelude.{ℕ, ◌≤◌, ◌≡◌, List, [], ◌∷◌, ◌++◌, Float}
 use Rattle.std.proofs.Math.Bool.{true, false}
-use Rattle.model.specs.Answers.{Value, none, weight, nothing, bit, dimension, View, bits_of}
+use Rattle.model.specs.Answers.{Value, none, weight, nothing, bit, dimension, pair, View, bits_of}
 use Rattle.record.specs.Reading.{kind_of, read_of}
 use Rattle.lines.specs.Text.{digit, decimal, hex_text, line_text}
 use Rattle.session.specs.declared.Session.{Session}
 use Rattle.session.specs.Session.{new_session, line_of, turned_away, start_step, obeys, step_of}
 
--- the text of an accepted answer's value: a space and its bits, 16 hex digits of a weight or of Nothing, one digit of a measured bit. No record asks for a dimension
+-- the text of an accepted answer's value: a space and its bits, 16 hex digits of a weight or of Nothing, one digit of a measured bit. No record asks for a dimension or for a layer
 abbrev pub value_text : Value → List ℕ
 value_text none = []
 value_text (weight w) = 32 ∷ hex_text (bits_of (weight w))
 value_text nothing = 32 ∷ hex_text (bits_of nothing)
 value_text (bit b) = 32 ∷ digit (bits_of (bit b)) ∷ []
 value_text (dimension n) = []
+value_text (pair p) = []
 
 -- the line of an answer: the kind, the refusal number or 0, and the value
 abbrev pub answer_text : ℕ → View → List ℕ

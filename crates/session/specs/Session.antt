@@ -3,7 +3,7 @@ use Rattle.std.specs.Prelude.{ℕ, Bool, true, false, not, cond, List, Float, Op
 use Rattle.complex.specs.declared.Complex.{Complex}
 use Rattle.gates.specs.declared.NamedGate.{NamedGate}
 use Rattle.model.specs.declared.Chain.{Chain}
-use Rattle.model.specs.Answers.{Answer, Value, none, weight, nothing, bit, dimension, View, view_answer, view_applied, view_projected, view_measured}
+use Rattle.model.specs.Answers.{Answer, Value, none, weight, nothing, bit, dimension, pair, View, view_answer, view_applied, view_projected, view_measured}
 use Rattle.model.specs.Slots.{held}
 use Rattle.model.specs.Start.{zero_chain}
 use Rattle.model.specs.Calls.{After, Started, start_call, gate_call, named_gate_call, project_call, measure_call, reset_call}
@@ -17,13 +17,14 @@ use Rattle.session.specs.declared.Session.{Session}
 
 -- ---- lines
 
--- what a line says of an accepted call's value. No record asks for a dimension
+-- what a line says of an answer's value. No record asks for a dimension or for a layer
 abbrev pub detail_of : Value → Detail
 detail_of none = Empty
 detail_of (weight w) = Kept w
 detail_of nothing = Nothing
 detail_of (bit b) = Bit b
 detail_of (dimension n) = Empty
+detail_of (pair p) = Empty
 
 abbrev pub line_of : ℕ → View → Line
 line_of kind v = record { kind = kind; number = v.number; detail = detail_of v.value }

@@ -5,7 +5,7 @@ use Rattle.std.proofs.Common.{sym, subst, ◌∙◌}
 use Rattle.std.proofs.Math.Bool.{true, false, cond}
 use Rattle.std.proofs.Math.Dec.{T}
 use Rattle.std.specs.Prelude.{Ok, Err}
-use Rattle.model.specs.Answers.{Value, none, weight, nothing, bit, dimension, View}
+use Rattle.model.specs.Answers.{Value, none, weight, nothing, bit, dimension, pair, View}
 use Rattle.model.specs.Slots.{store_room}
 use Rattle.model.specs.Sound.{settings_fit}
 use Rattle.model.specs.Start.{zero_chain, fresh_chain, fresh_store}
@@ -29,6 +29,7 @@ value_text_lem nothing = refl
 value_text_lem (bit true) = refl
 value_text_lem (bit false) = refl
 value_text_lem (dimension n) = refl
+value_text_lem (pair p) = refl
 
 line_text_lem : (kind : ℕ) (v : View) → line_text (line_of kind v) ≡ answer_text kind v
 unfolding line_text
