@@ -1,7 +1,7 @@
 // What a call does that is not refused: its run at the front of the work slice, which is +0 afterwards. Reached through
 // `chain` alone. Each function lends that front and has it cleared: one for all, over a closure that makes the run, was
 // tried, and the proof didn't close, since a caller learns nothing of what the closure changes in `chain` and `store`.
-#![tactic(auto, using(std::proofs::lemmas::Bool::Decides::nat_tests, crate::specs::Accepted::sound_told, crate::specs::Accepted::ready_part, crate::specs::Accepted::cleared_front), unfolding(model::specs::Calls::gate_call, model::specs::Calls::layer_call, model::specs::Calls::project_call, model::specs::Calls::measure_call, model::specs::Calls::reset_call))]
+#![tactic(auto, using(std::proofs::lemmas::Bool::Decides::nat_tests, crate::specs::Accepted::sound_told, crate::specs::Accepted::ready_part, crate::specs::Accepted::cleared_front, layers::specs::Room::gates_room), unfolding(model::specs::Calls::gate_call, model::specs::Calls::layer_call, model::specs::Calls::project_call, model::specs::Calls::measure_call, model::specs::Calls::reset_call))]
 
 ghost use Rattle.std.specs.Prelude.{◌≡◌, ◌++◌, ◌≤◌, Ok, length, drop, replicate};
 ghost use Rattle.complex.specs.Complex.{zero_f};

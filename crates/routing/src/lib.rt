@@ -2,15 +2,16 @@
 // in turn.
 #![tactic(auto)]
 
-ghost use Rattle.std.specs.Prelude.{◌≡◌, ◌≢◌, cond, ◌+◌, ◌-◌, ◌<◌, ltb};
+ghost use Rattle.std.specs.Prelude.{◌≡◌, ◌≢◌, true, cond, ◌+◌, ◌-◌, ◌*◌, ◌<◌, ◌≤◌, ltb, length};
 ghost use Rattle.gates.specs.Gate.{swap_gate_qubits};
 ghost use Rattle.model.specs.Layers.{pair_count, layer_of};
 ghost use Rattle.model.specs.Routing.{relabelled, swap_step, stepped, gate_run, gate_reason, layer_ran, layer_run};
+ghost use Rattle.model.specs.Calls.{pairs_fit};
 ghost use Rattle.model.specs.Statements.Soundness.{Sound};
 ghost use Rattle.moves.specs.Mps.{state, Same};
 ghost use Rattle.cuts.specs.Answered.{answered, answered_by};
 ghost use Rattle.routing.specs.Runs.{passed, passed_by, swaps_down, routed_gate, routed_reason};
-ghost use Rattle.routing.specs.Pairs.{Layer, pair_run, pair_reason};
+ghost use Rattle.routing.specs.Pairs.{pair_run, pair_reason};
 
 use complex::Complex;
 use cuts::apply_adjacent_two_qubit;
@@ -96,9 +97,9 @@ pub fn apply_two_qubit_gate(mps: &mut Mps, gate: [[Complex; 4]; 4], q0: usize, q
 // ---- the gates of a layer
 
 // Pair p of a layer.
+#[tactic(auto, using(model::proofs::Laws::LayerRuns::fits_at_lem))]
 fn apply_pair(mps: &mut Mps, pairs: &[u8], gates: &[f64], p: usize) -> Applied
-    requires layer { Layer mps.old.chain.now.num_qubits pairs.now gates.now }
-    requires p_bound { p < pair_count pairs.now }
+    requires { (pairs_fit mps.old.chain.now.num_qubits pairs.now ≡ true) × (32 * pair_count pairs.now ≤ length gates.now) × (p < pair_count pairs.now) }
     ensures value { let s = state mps.old in answered result (state mps.new) ≡ answered_by (pair_reason pairs.now gates.now p s) (pair_run pairs.now gates.now p s) }
     ensures place { Same mps.old mps.new }
 {
@@ -108,8 +109,9 @@ fn apply_pair(mps: &mut Mps, pairs: &[u8], gates: &[f64], p: usize) -> Applied
 }
 
 // All pairs in turn, up to the first that is refused.
+#[tactic(auto, using(cuts::specs::Answered::ran_refused, cuts::specs::Answered::ran_done, crate::specs::Pairs::rest_all, crate::specs::Pairs::rest_on, crate::specs::Pairs::rest_out, crate::specs::Pairs::rest_done))]
 pub fn apply_layer(mps: &mut Mps, pairs: &[u8], gates: &[f64]) -> Layered
-    requires { Layer mps.old.chain.now.num_qubits pairs.now gates.now }
+    requires { (pairs_fit mps.old.chain.now.num_qubits pairs.now ≡ true) × (32 * pair_count pairs.now ≤ length gates.now) }
     ensures value { layer_ran result (state mps.new) ≡ layer_run 0 (layer_of pairs.now gates.now) (state mps.old) }
     ensures place { Same mps.old mps.new }
 {
