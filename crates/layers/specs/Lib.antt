@@ -1,3 +1,3 @@
--- What the proofs of a layer's tests use, and those of its run.
+-- That there is a gate for each pair, and which qubits the first pairs name.
 pub mod Room
 pub mod Named

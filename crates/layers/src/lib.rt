@@ -3,7 +3,7 @@
 #![tactic(auto)]
 
 ghost use Rattle.std.specs.Prelude.{◌≡◌, true, ◌+◌, ◌*◌, ◌≤◌, ◌<◌, length};
-ghost use Rattle.complex.specs.Numbers.{count, at};
+ghost use Rattle.complex.specs.Numbers.{at};
 ghost use Rattle.gates.specs.Gate.{four};
 ghost use Rattle.model.specs.Layers.{pair_count, first, second, gate_at};
 ghost use Rattle.model.specs.Calls.{lengths_agree, pairs_fit, pairs_apart, gates_finite};
@@ -21,11 +21,12 @@ pub fn qubits_at(pairs: &[u8], p: usize) -> (usize, usize)
     (usize::from(pairs[2 * p]), usize::from(pairs[2 * p + 1]))
 }
 
-// The four complex numbers from number k on.
-fn row_at(gates: &[f64], k: usize) -> [Complex; 4]
-    requires { k + 4 ≤ count gates.now }
-    ensures { result ≡ four (λ c. at gates.now (k + c)) }
+// Row r of the gate of pair p.
+fn row_at(gates: &[f64], p: usize, r: usize) -> [Complex; 4]
+    requires { (32 * p + 32 ≤ length gates.now) × (r < 4) }
+    ensures { result ≡ four (λ c. at gates.now (16 * p + 4 * r + c)) }
 {
+    let k = 16 * p + 4 * r;
     [
         complex_at(gates, k),
         complex_at(gates, k + 1),
@@ -40,12 +41,11 @@ pub fn gate_at(gates: &[f64], p: usize) -> [[Complex; 4]; 4]
     requires { 32 * p + 32 ≤ length gates.now }
     ensures { result ≡ gate_at gates.now p }
 {
-    let k = 16 * p;
     [
-        row_at(gates, k),
-        row_at(gates, k + 4),
-        row_at(gates, k + 8),
-        row_at(gates, k + 12),
+        row_at(gates, p, 0),
+        row_at(gates, p, 1),
+        row_at(gates, p, 2),
+        row_at(gates, p, 3),
     ]
 }
 
@@ -53,6 +53,7 @@ pub fn gate_at(gates: &[f64], p: usize) -> [[Complex; 4]; 4]
 
 // Whether so many bytes are two a pair, and so many numbers 32 a pair. By quotients, since 16 times a length need not be
 // a machine word.
+#[tactic(auto, unfolding(model::specs::Calls::lengths_agree))]
 pub fn lengths_agree(bytes: usize, numbers: usize) -> bool
     ensures { result ≡ lengths_agree bytes numbers }
 {
@@ -60,7 +61,7 @@ pub fn lengths_agree(bytes: usize, numbers: usize) -> bool
 }
 
 // Whether each pair is two of n qubits.
-#[tactic(auto, using(complex::specs::Loops::every_none, complex::specs::Loops::every_more), unfolding(model::specs::Calls::pairs_fit))]
+#[tactic(auto, using(std::proofs::lemmas::Bool::Decides::nat_tests, complex::specs::Loops::every_none, complex::specs::Loops::every_more), unfolding(model::specs::Calls::pairs_fit))]
 pub fn pairs_fit(pairs: &[u8], n: usize) -> bool
     ensures { result ≡ pairs_fit n pairs.now }
 {
@@ -73,20 +74,20 @@ pub fn pairs_fit(pairs: &[u8], n: usize) -> bool
 }
 
 // Whether no pair of a layer on at most 64 qubits names a qubit that one before it names.
+#[tactic(auto, using(complex::specs::Loops::every_none, complex::specs::Loops::each_none, complex::specs::Loops::each_more, model::proofs::Laws::LayerRuns::fits_at_lem, crate::specs::Named::free_more), unfolding(model::specs::Calls::pairs_apart))]
 pub fn pairs_apart(pairs: &[u8], n: usize) -> bool
     requires { (n ≤ 64) × (pairs_fit n pairs.now ≡ true) }
     ensures { result ≡ pairs_apart pairs.now }
 {
     let mut named = [false; 64];
+    let mut apart = true;
     for p in 0..pairs.len() / 2 {
         let (q0, q1) = qubits_at(pairs, p);
-        if named[q0] | named[q1] {
-            return false;
-        }
+        apart &= !(named[q0] | named[q1]);
         named[q0] = true;
         named[q1] = true;
     }
-    true
+    apart
 }
 
 // Whether the first n gates are of finite numbers.

@@ -88,8 +88,14 @@ pub fn call_refusal(
 }
 
 // Of a layer of pairs. Each test is of the whole layer, and is made where those before it passed.
-#[tactic(auto, using(crate::specs::Ranges::sound_passed))]
-pub fn layer_refusal(chain: &Chain, store: usize, work: usize, pairs: &[u8], gates: &[f64]) -> Answer
+#[tactic(auto, using(crate::specs::Ranges::sound_passed, layers::specs::Room::gates_room))]
+pub fn layer_refusal(
+    chain: &Chain,
+    store: usize,
+    work: usize,
+    pairs: &[u8],
+    gates: &[f64],
+) -> Answer
     ensures { result ≡ refusal_of (layer_number chain.now (ltb store (store_room chain.now.num_qubits chain.now.max_bond_dim) || ltb work (work_room chain.now.max_bond_dim)) pairs.now gates.now) }
 {
     if !is_sound(chain) {
