@@ -38,7 +38,7 @@ def folders_are_listed(crates):
 # Kernels, moves and cuts: their functions have requirements and are reached through the public calls of `chain` alone.
 INTERNAL = {
     "columns", "jacobi", "svd", "truncation", "qr", "pair", "fills", "gauge", "walks", "born", "sound", "moves", "cutting", "cuts",
-    "routing", "environments", "outcomes", "refusals", "fresh", "accepted",
+    "routing", "environments", "outcomes", "refusals", "fresh", "accepted", "layers",
 }
 ABOVE_INTERNAL = INTERNAL | {"chain"}
 
@@ -122,7 +122,7 @@ def readme_maps_every_crate(crates):
 
 
 # The public calls of `chain`, and nothing else.
-CALLS = {"start", "apply_gate", "apply_named_gate", "project", "measure", "reset", "left_environment", "right_environment"}
+CALLS = {"start", "apply_gate", "apply_named_gate", "apply_layer", "project", "measure", "reset", "left_environment", "right_environment"}
 
 
 def chain_offers_the_calls_alone():
