@@ -241,21 +241,41 @@ impl Chain {
         o
     }
 
+    fn dump_left(&self, o: &mut String, from: usize, site: usize) {
+        let _ = write!(o, "# left {from} {site} :");
+        for z in self.left_env(from, site).unwrap() {
+            let _ = write!(o, " {} {}", hex(z.re), hex(z.im));
+        }
+        let _ = writeln!(o);
+    }
+
+    fn dump_right(&self, o: &mut String, site: usize, to: usize) {
+        let _ = write!(o, "# right {site} {to} :");
+        for z in self.right_env(site, to).unwrap() {
+            let _ = write!(o, " {} {}", hex(z.re), hex(z.im));
+        }
+        let _ = writeln!(o);
+    }
+
     pub fn dump_envs(&self) -> String {
         let n = self.b.num_qubits;
         let mut o = String::new();
         for a in 0..n {
             for s in 0..=n {
-                let _ = write!(o, "# left {a} {s} :");
-                for z in self.left_env(a, s).unwrap() {
-                    let _ = write!(o, " {} {}", hex(z.re), hex(z.im));
-                }
-                let _ = write!(o, "\n# right {s} {a} :");
-                for z in self.right_env(s, a).unwrap() {
-                    let _ = write!(o, " {} {}", hex(z.re), hex(z.im));
-                }
-                let _ = writeln!(o);
+                self.dump_left(&mut o, a, s);
+                self.dump_right(&mut o, s, a);
             }
+        }
+        o
+    }
+
+    /// The walks from the chain's two ends alone.
+    pub fn dump_ends(&self) -> String {
+        let n = self.b.num_qubits;
+        let mut o = String::new();
+        for s in 0..=n {
+            self.dump_left(&mut o, 0, s);
+            self.dump_right(&mut o, s, n - 1);
         }
         o
     }
