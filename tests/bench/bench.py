@@ -2,6 +2,7 @@
 """The port's speed against the Rust's, same machine, same gates, interleaved in one process.
 
     python3 tests/bench/bench.py RUST OUT [ROUNDS [ONLY]]
+    python3 tests/bench/bench.py RUST OUT ROUNDS layers # layers of pairs beside their gates in a call each, alone
     python3 tests/bench/bench.py RUST OUT count         # instructions, by valgrind's callgrind
 
 RUST is the folder of the Rust text, OUT a folder to build in (tests/oracle/build_oracle.py says what that needs). The
@@ -13,7 +14,8 @@ port is linked as a static library that `rt lib` writes once it is proved. Three
 
 The weights that port, oracle and rooted discard are asserted to be equal to the bit; the shipped Rust's may differ.
 Prints microseconds a gate and the ratios, the best of ROUNDS (5); ONLY names the circuits to run. A run of all circuits
-also prints nanoseconds a root and a size, and draws OUT/speed.svg, which docs/SPEED.md shows.
+also prints nanoseconds a root and a size, and layers, each the best of 20 times as many rounds, after which both stores are
+asserted to be equal to the bit; and draws OUT/speed.svg, which docs/SPEED.md shows.
 """
 import os, re, shutil, subprocess, sys
 

@@ -1,7 +1,8 @@
 //! The port and the Rust on the same gates, interleaved in one process: microseconds a gate, the best of some rounds.
 //! `shipped` is the Rust with its own `hypot`. `rooted` is the Rust with each square root and complex size taken by the
 //! port's functions, so that what they cost is seen. `oracle`, with complex size correctly rounded, is run once and not
-//! timed: the port and `rooted` must discard the weight that it discards, to the bit.
+//! timed: the port and `rooted` must discard the weight that it discards, to the bit. Then the port's layers of pairs, each in
+//! one call, beside the same gates in a call each.
 use num_complex::Complex64;
 use oracle::mps::access as oracle_rust;
 use rooted::mps::access as rooted_rust;
@@ -12,7 +13,10 @@ use std::time::Instant;
 unsafe extern "C" {
     fn jondwave_root(x: f64) -> f64;
     fn jondwave_norm(re: f64, im: f64) -> f64;
-    fn jondwave_gates(n: usize, d: usize, eps: f64, clamp: f64, g: *const u8, gl: usize, s: *mut f64, sl: usize, w: *mut f64, wl: usize) -> f64;
+    fn jondwave_gates(
+        n: usize, d: usize, eps: f64, clamp: f64, g: *const u8, gl: usize, p: *const u8, pl: usize, x: *const f64, xl: usize, times: usize,
+        s: *mut f64, sl: usize, w: *mut f64, wl: usize,
+    ) -> f64;
 }
 
 const EPSILON: f64 = 1e-12;
@@ -100,6 +104,34 @@ fn records(gates: &Circuit) -> Vec<u8> {
     o
 }
 
+/// The circuit as a layer: two bytes a pair, and 32 numbers a pair.
+fn layer_of(gates: &Circuit) -> (Vec<u8>, Vec<f64>) {
+    let pairs = gates.iter().flat_map(|(a, b, _)| [*a as u8, *b as u8]).collect();
+    let numbers = gates.iter().flat_map(|(_, _, g)| g.as_flattened()).flat_map(|z| [z.re, z.im]).collect();
+    (pairs, numbers)
+}
+
+/// What the port's calls are lent.
+struct Lent {
+    store: Vec<f64>,
+    work: Vec<f64>,
+}
+impl Lent {
+    fn new(n: usize, d: usize) -> Lent {
+        Lent { store: vec![0.0; 4 * n * d * d], work: vec![0.0; 80 * d * d + 16 * d] }
+    }
+    /// Gate records on a fresh chain, then a layer some times over.
+    fn by_port(&mut self, n: usize, d: usize, gates: &[u8], pairs: &[u8], numbers: &[f64], times: usize) -> f64 {
+        let (s, w) = (&mut self.store, &mut self.work);
+        unsafe {
+            jondwave_gates(
+                n, d, EPSILON, CLAMP, gates.as_ptr(), gates.len(), pairs.as_ptr(), pairs.len(), numbers.as_ptr(), numbers.len(), times,
+                s.as_mut_ptr(), s.len(), w.as_mut_ptr(), w.len(),
+            )
+        }
+    }
+}
+
 macro_rules! runs {
     ($name:ident, $rust:ident) => {
         #[inline(never)]
@@ -147,10 +179,41 @@ fn roots_and_sizes() {
     }
 }
 
+/// Layers that name every qubit, one of them LAYERS times over: microseconds a gate, in a call each and in a call a layer.
+fn layers(rounds: usize) {
+    const LAYERS: usize = 20;
+    println!("\n{:>22} {:>6} {:>10} {:>10} {:>7}", "layers", "pairs", "a gate", "a layer", "ratio");
+    for (n, d) in [(4, 1), (16, 1), (64, 1), (4, 2), (16, 2), (4, 8), (16, 8)] {
+        for far in [false, true] {
+            let mut r = Rng(13);
+            let mut qubits: Vec<usize> = (0..n).collect();
+            for i in (1..n).rev().filter(|_| far) {
+                qubits.swap(i, r.below(i + 1));
+            }
+            let gates: Circuit = qubits.chunks(2).map(|q| (q[0], q[1], if d == 1 { permutation(&mut r) } else { unitary(&mut r) })).collect();
+            let (pairs, numbers) = layer_of(&gates);
+            let (gate_by_gate, mut one, mut other) = (records(&gates).repeat(LAYERS), Lent::new(n, d), Lent::new(n, d));
+            let (mut by_gates, mut by_layers) = (f64::MAX, f64::MAX);
+            for _ in 0..20 * rounds {
+                let x = timed(&mut by_gates, || one.by_port(n, d, &gate_by_gate, &[], &[], 0));
+                let y = timed(&mut by_layers, || other.by_port(n, d, &[], &pairs, &numbers, LAYERS));
+                let same = one.store.iter().zip(&other.store).all(|(a, b)| a.to_bits() == b.to_bits());
+                assert!(x == y && same, "a layer leaves what its gates do not");
+            }
+            let name = format!("{} n {n} D {d}", if far { "far pairs" } else { "neighbours" });
+            let c = 1e6 / (LAYERS * gates.len()) as f64;
+            println!("{name:>22} {:>6} {:>10.3} {:>10.3} {:>7.3}", gates.len(), by_gates * c, by_layers * c, by_layers / by_gates);
+        }
+    }
+}
+
 fn main() {
     let mut args = std::env::args().skip(1);
     let rounds: usize = args.next().map_or(5, |x| x.parse().unwrap());
     let only: Option<String> = args.next();
+    if only.as_deref() == Some("layers") {
+        return layers(rounds);
+    }
     let mut cases: Vec<(String, usize, usize, Circuit)> = Vec::new();
     for (d, layers) in [(2, 400), (4, 120), (8, 40), (16, 16), (32, 12), (64, 13)] {
         cases.push((format!("brickwork n 16 D {d}"), 16, d, brickwork(16, layers)));
@@ -167,14 +230,11 @@ fn main() {
             continue;
         }
         let bytes = records(gates);
-        let mut store = vec![0.0f64; 4 * n * d * d];
-        let mut work = vec![0.0f64; 80 * d * d + 16 * d];
+        let mut lent = Lent::new(*n, *d);
         let (mut port, mut rust, mut rooted) = (f64::MAX, f64::MAX, f64::MAX);
         let want = by_oracle(*n, *d, gates).to_bits();
         for _ in 0..rounds {
-            let x = timed(&mut port, || unsafe {
-                jondwave_gates(*n, *d, EPSILON, CLAMP, bytes.as_ptr(), bytes.len(), store.as_mut_ptr(), store.len(), work.as_mut_ptr(), work.len())
-            });
+            let x = timed(&mut port, || lent.by_port(*n, *d, &bytes, &[], &[], 0));
             timed(&mut rust, || by_rust(*n, *d, gates));
             let y = timed(&mut rooted, || by_rooted(*n, *d, gates));
             assert!(x == want && y == want, "discarded weights differ");
@@ -187,5 +247,6 @@ fn main() {
     }
     if only.is_none() {
         roots_and_sizes();
+        layers(rounds);
     }
 }

@@ -1,12 +1,12 @@
--- A chain, its store and its work slice, and a list of gate records run on them one after the other, whatever each answers.
+-- A chain, its store and its work slice; a list of gate records run on them one after the other, and a layer of pairs some times
+-- over, whatever each answers.
 use Rattle.std.specs.Prelude.{ℕ, ◌+◌, ◌*◌, ◌/◌, List, length, get_or, Float}
 use Rattle.complex.specs.Loops.{each}
 use Rattle.complex.specs.Parts.{part}
 use Rattle.complex.specs.declared.Complex.{Complex}
 use Rattle.model.specs.declared.Chain.{Chain}
-use Rattle.model.specs.Answers.{Applied}
 use Rattle.model.specs.Slots.{held}
-use Rattle.model.specs.Calls.{After, start_call, gate_call}
+use Rattle.model.specs.Calls.{After, start_call, gate_call, layer_call}
 use Rattle.record.specs.GateBytes.{gate_read}
 
 pub record Left : Type 0 where
@@ -17,7 +17,7 @@ pub record Left : Type 0 where
 abbrev pub left : Chain → List Float → List Float → Left
 left c store work = record { chain = c; store = store; work = work }
 
-abbrev pub left_by : After Applied → Left
+abbrev pub left_by : {A : Type 0} → After A → Left
 left_by a = left a.chain a.store a.work
 
 unfoldable pub gate_on : ℕ → ℕ → List (List Complex) → Left → Left
@@ -27,7 +27,10 @@ gate_on q0 q1 gate x = left_by (gate_call (held x.chain x.store) x.work q0 q1 ga
 abbrev pub record_step : List ℕ → ℕ → Left → Left
 record_step bytes k = gate_on (get_or bytes (262 * k + 4) 0) (get_or bytes (262 * k + 5) 0) (gate_read (part (262 * k) (262 * k + 262) bytes))
 
-unfoldable pub gates_from : ℕ → ℕ → Float → Float → List ℕ → List Float → List Float → Left
-gates_from n d epsilon clamp bytes store work =
+abbrev pub layer_on : List ℕ → List Float → Left → Left
+layer_on pairs numbers x = left_by (layer_call (held x.chain x.store) x.work pairs numbers)
+
+unfoldable pub gates_from : ℕ → ℕ → Float → Float → List ℕ → List ℕ → List Float → ℕ → List Float → List Float → Left
+gates_from n d epsilon clamp bytes pairs numbers times store work =
     let s = start_call n d epsilon clamp 63 store in
-    each (length bytes / 262) (record_step bytes) (left s.chain s.store work)
+    each times (λ k. layer_on pairs numbers) (each (length bytes / 262) (record_step bytes) (left s.chain s.store work))

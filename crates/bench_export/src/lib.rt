@@ -1,12 +1,13 @@
-// A fresh chain and a list of gate records run on it in one call, for a benchmark to link beside the Rust.
+// A fresh chain, and a list of gate records and a layer of pairs run on it in one call, for a benchmark to link beside the
+// Rust.
 #![tactic(auto)]
 
 ghost use Rattle.std.specs.Prelude.{◌≡◌, ◌/◌, ◌<◌, length};
 ghost use Rattle.complex.specs.Loops.{each};
 ghost use Rattle.record.specs.GateBytes.{gate_read};
-ghost use Rattle.bench_export.specs.Gates.{left, gate_on, record_step, gates_from};
+ghost use Rattle.bench_export.specs.Gates.{left, gate_on, record_step, layer_on, gates_from};
 
-use chain::{apply_gate, start};
+use chain::{apply_gate, apply_layer, start};
 use model::Chain;
 use record::read_gate;
 
@@ -52,7 +53,26 @@ fn apply_records(chain: Chain, store: &mut [f64], work: &mut [f64], gates: &[u8]
     out
 }
 
-// A chain started, then the gates: the weight that the cuts discarded.
+// The layer of both slices, so many times over.
+#[tactic(auto, using(complex::specs::Loops::each_none, complex::specs::Loops::each_more))]
+fn apply_layers(
+    chain: Chain,
+    store: &mut [f64],
+    work: &mut [f64],
+    pairs: &[u8],
+    numbers: &[f64],
+    times: usize,
+) -> Chain
+    ensures { left result store.new work.new ≡ each times (λ k. layer_on pairs.now numbers.now) (left chain store.old work.old) }
+{
+    let mut out = chain;
+    for _ in 0..times {
+        out = apply_layer(out, store, work, pairs, numbers).chain;
+    }
+    out
+}
+
+// A chain started, then the gates, then the layer, so many times over: the weight that the cuts discarded.
 #[tactic(auto, unfolding(crate::specs::Gates::gates_from))]
 #[unsafe(no_mangle)]
 pub extern "C" fn jondwave_gates(
@@ -61,14 +81,18 @@ pub extern "C" fn jondwave_gates(
     epsilon: f64,
     clamp: f64,
     gates: &[u8],
+    pairs: &[u8],
+    numbers: &[f64],
+    times: usize,
     store: &mut [f64],
     work: &mut [f64],
 ) -> f64
-    ensures value { result ≡ (gates_from n d epsilon clamp gates.now store.old work.old).chain.truncation_discarded }
-    ensures store_after { store.new ≡ (gates_from n d epsilon clamp gates.now store.old work.old).store }
-    ensures work_after { work.new ≡ (gates_from n d epsilon clamp gates.now store.old work.old).work }
+    ensures value { result ≡ (gates_from n d epsilon clamp gates.now pairs.now numbers.now times store.old work.old).chain.truncation_discarded }
+    ensures store_after { store.new ≡ (gates_from n d epsilon clamp gates.now pairs.now numbers.now times store.old work.old).store }
+    ensures work_after { work.new ≡ (gates_from n d epsilon clamp gates.now pairs.now numbers.now times store.old work.old).work }
 {
     let first = start(n, d, epsilon, clamp, 63, store);
-    let out = apply_records(first.chain, store, work, gates);
+    let then = apply_records(first.chain, store, work, gates);
+    let out = apply_layers(then, store, work, pairs, numbers, times);
     out.truncation_discarded
 }
