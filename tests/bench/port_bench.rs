@@ -14,7 +14,7 @@ unsafe extern "C" {
     fn jondwave_root(x: f64) -> f64;
     fn jondwave_norm(re: f64, im: f64) -> f64;
     fn jondwave_gates(
-        n: usize, d: usize, eps: f64, clamp: f64, g: *const u8, gl: usize, p: *const u8, pl: usize, x: *const f64, xl: usize, times: usize,
+        n: usize, d: usize, eps: f64, clamp: f64, g: *const u8, gl: usize, p: *const u8, pl: usize, x: *const f64, xl: usize, layers: usize,
         s: *mut f64, sl: usize, w: *mut f64, wl: usize,
     ) -> f64;
 }
@@ -104,8 +104,8 @@ fn records(gates: &Circuit) -> Vec<u8> {
     o
 }
 
-/// The circuit as a layer: two bytes a pair, and 32 numbers a pair.
-fn layer_of(gates: &Circuit) -> (Vec<u8>, Vec<f64>) {
+/// The circuit as layers hold it: two bytes a pair, and 32 numbers a pair.
+fn layers_of(gates: &Circuit) -> (Vec<u8>, Vec<f64>) {
     let pairs = gates.iter().flat_map(|(a, b, _)| [*a as u8, *b as u8]).collect();
     let numbers = gates.iter().flat_map(|(_, _, g)| g.as_flattened()).flat_map(|z| [z.re, z.im]).collect();
     (pairs, numbers)
@@ -120,12 +120,12 @@ impl Lent {
     fn new(n: usize, d: usize) -> Lent {
         Lent { store: vec![0.0; 4 * n * d * d], work: vec![0.0; 80 * d * d + 16 * d] }
     }
-    /// Gate records on a fresh chain, then a layer some times over.
-    fn by_port(&mut self, n: usize, d: usize, gates: &[u8], pairs: &[u8], numbers: &[f64], times: usize) -> f64 {
+    /// Gate records on a fresh chain, then layers, of which each has as many pairs.
+    fn by_port(&mut self, n: usize, d: usize, gates: &[u8], pairs: &[u8], numbers: &[f64], layers: usize) -> f64 {
         let (s, w) = (&mut self.store, &mut self.work);
         unsafe {
             jondwave_gates(
-                n, d, EPSILON, CLAMP, gates.as_ptr(), gates.len(), pairs.as_ptr(), pairs.len(), numbers.as_ptr(), numbers.len(), times,
+                n, d, EPSILON, CLAMP, gates.as_ptr(), gates.len(), pairs.as_ptr(), pairs.len(), numbers.as_ptr(), numbers.len(), layers,
                 s.as_mut_ptr(), s.len(), w.as_mut_ptr(), w.len(),
             )
         }
@@ -179,30 +179,33 @@ fn roots_and_sizes() {
     }
 }
 
-/// Layers that name every qubit, one of them LAYERS times over: microseconds a gate, in a call each and in a call a layer.
+/// Layers that name every qubit, each in one call, and their gates in a call each: microseconds a gate.
 fn layers(rounds: usize) {
     const LAYERS: usize = 20;
-    println!("\n{:>22} {:>6} {:>10} {:>10} {:>7}", "layers", "pairs", "a gate", "a layer", "ratio");
+    println!("\n{:>22} {:>6} {:>10} {:>10} {:>7}", "layers", "pairs", "by gates", "by layers", "ratio");
     for (n, d) in [(4, 1), (16, 1), (64, 1), (4, 2), (16, 2), (4, 8), (16, 8)] {
         for far in [false, true] {
             let mut r = Rng(13);
+            let mut gates = Circuit::new();
             let mut qubits: Vec<usize> = (0..n).collect();
-            for i in (1..n).rev().filter(|_| far) {
-                qubits.swap(i, r.below(i + 1));
+            for _ in 0..LAYERS {
+                for i in (1..n).rev().filter(|_| far) {
+                    qubits.swap(i, r.below(i + 1));
+                }
+                gates.extend(qubits.chunks(2).map(|q| (q[0], q[1], if d == 1 { permutation(&mut r) } else { unitary(&mut r) })));
             }
-            let gates: Circuit = qubits.chunks(2).map(|q| (q[0], q[1], if d == 1 { permutation(&mut r) } else { unitary(&mut r) })).collect();
-            let (pairs, numbers) = layer_of(&gates);
-            let (gate_by_gate, mut one, mut other) = (records(&gates).repeat(LAYERS), Lent::new(n, d), Lent::new(n, d));
+            let (bytes, (pairs, numbers)) = (records(&gates), layers_of(&gates));
+            let (mut one, mut other) = (Lent::new(n, d), Lent::new(n, d));
             let (mut by_gates, mut by_layers) = (f64::MAX, f64::MAX);
             for _ in 0..20 * rounds {
-                let x = timed(&mut by_gates, || one.by_port(n, d, &gate_by_gate, &[], &[], 0));
+                let x = timed(&mut by_gates, || one.by_port(n, d, &bytes, &[], &[], 0));
                 let y = timed(&mut by_layers, || other.by_port(n, d, &[], &pairs, &numbers, LAYERS));
                 let same = one.store.iter().zip(&other.store).all(|(a, b)| a.to_bits() == b.to_bits());
                 assert!(x == y && same, "a layer leaves what its gates do not");
             }
-            let name = format!("{} n {n} D {d}", if far { "far pairs" } else { "neighbours" });
-            let c = 1e6 / (LAYERS * gates.len()) as f64;
-            println!("{name:>22} {:>6} {:>10.3} {:>10.3} {:>7.3}", gates.len(), by_gates * c, by_layers * c, by_layers / by_gates);
+            let name = format!("{} n {n} D {d}", if far { "any pairs" } else { "neighbours" });
+            let c = 1e6 / gates.len() as f64;
+            println!("{name:>22} {:>6} {:>10.3} {:>10.3} {:>7.3}", n / 2, by_gates * c, by_layers * c, by_layers / by_gates);
         }
     }
 }

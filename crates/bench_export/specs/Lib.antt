@@ -1,2 +1,2 @@
--- What a list of gate records and a layer leave of a chain.
+-- What a list of gate records and one of layers leave of a chain.
 pub mod Gates

@@ -1,11 +1,10 @@
-// A fresh chain, and a list of gate records and a layer of pairs run on it in one call, for a benchmark to link beside the
-// Rust.
+// A fresh chain, and a list of gate records and one of layers run on it in one call, for a benchmark to link beside the Rust.
 #![tactic(auto)]
 
 ghost use Rattle.std.specs.Prelude.{◌≡◌, ◌/◌, ◌<◌, length};
 ghost use Rattle.complex.specs.Loops.{each};
 ghost use Rattle.record.specs.GateBytes.{gate_read};
-ghost use Rattle.bench_export.specs.Gates.{left, gate_on, record_step, layer_on, gates_from};
+ghost use Rattle.bench_export.specs.Gates.{left, gate_on, record_step, layer_step, gates_from};
 
 use chain::{apply_gate, apply_layer, start};
 use model::Chain;
@@ -53,7 +52,28 @@ fn apply_records(chain: Chain, store: &mut [f64], work: &mut [f64], gates: &[u8]
     out
 }
 
-// The layer of both slices, so many times over.
+// Layer k of `count` that share both slices evenly.
+#[tactic(auto, using(crate::specs::Gates::share_fits))]
+fn apply_layer_at(
+    chain: Chain,
+    store: &mut [f64],
+    work: &mut [f64],
+    pairs: &[u8],
+    numbers: &[f64],
+    count: usize,
+    k: usize,
+) -> Chain
+    requires { k < count }
+    ensures { left result store.new work.new ≡ layer_step pairs.now numbers.now count k (left chain store.old work.old) }
+{
+    let p = pairs.len() / count;
+    let g = numbers.len() / count;
+    let a = p * k;
+    let b = g * k;
+    apply_layer(chain, store, work, &pairs[a..a + p], &numbers[b..b + g]).chain
+}
+
+// All of them, in order.
 #[tactic(auto, using(complex::specs::Loops::each_none, complex::specs::Loops::each_more))]
 fn apply_layers(
     chain: Chain,
@@ -61,18 +81,18 @@ fn apply_layers(
     work: &mut [f64],
     pairs: &[u8],
     numbers: &[f64],
-    times: usize,
+    count: usize,
 ) -> Chain
-    ensures { left result store.new work.new ≡ each times (λ k. layer_on pairs.now numbers.now) (left chain store.old work.old) }
+    ensures { left result store.new work.new ≡ each count (layer_step pairs.now numbers.now count) (left chain store.old work.old) }
 {
     let mut out = chain;
-    for _ in 0..times {
-        out = apply_layer(out, store, work, pairs, numbers).chain;
+    for k in 0..count {
+        out = apply_layer_at(out, store, work, pairs, numbers, count, k);
     }
     out
 }
 
-// A chain started, then the gates, then the layer, so many times over: the weight that the cuts discarded.
+// A chain started, then the gates, then the layers: the weight that the cuts discarded.
 #[tactic(auto, unfolding(crate::specs::Gates::gates_from))]
 #[unsafe(no_mangle)]
 pub extern "C" fn jondwave_gates(
@@ -83,16 +103,16 @@ pub extern "C" fn jondwave_gates(
     gates: &[u8],
     pairs: &[u8],
     numbers: &[f64],
-    times: usize,
+    layers: usize,
     store: &mut [f64],
     work: &mut [f64],
 ) -> f64
-    ensures value { result ≡ (gates_from n d epsilon clamp gates.now pairs.now numbers.now times store.old work.old).chain.truncation_discarded }
-    ensures store_after { store.new ≡ (gates_from n d epsilon clamp gates.now pairs.now numbers.now times store.old work.old).store }
-    ensures work_after { work.new ≡ (gates_from n d epsilon clamp gates.now pairs.now numbers.now times store.old work.old).work }
+    ensures value { result ≡ (gates_from n d epsilon clamp gates.now pairs.now numbers.now layers store.old work.old).chain.truncation_discarded }
+    ensures store_after { store.new ≡ (gates_from n d epsilon clamp gates.now pairs.now numbers.now layers store.old work.old).store }
+    ensures work_after { work.new ≡ (gates_from n d epsilon clamp gates.now pairs.now numbers.now layers store.old work.old).work }
 {
     let first = start(n, d, epsilon, clamp, 63, store);
     let then = apply_records(first.chain, store, work, gates);
-    let out = apply_layers(then, store, work, pairs, numbers, times);
+    let out = apply_layers(then, store, work, pairs, numbers, layers);
     out.truncation_discarded
 }
