@@ -108,7 +108,7 @@ lengths_agree bytes numbers = eqb bytes (2 * (bytes / 2)) && eqb numbers (32 * (
 unfoldable pub pairs_fit : ℕ → List ℕ → Bool
 pairs_fit n pairs = every (pair_count pairs) (λ p. not (no_pair n (first pairs p) (second pairs p)))
 
--- no pair names a qubit that one before it names
+-- the pairs p and r name one qubit; no pair meets one before it
 abbrev pub meet : List ℕ → ℕ → ℕ → Bool
 meet pairs p r =
     eqb (first pairs p) (first pairs r) || eqb (first pairs p) (second pairs r) || eqb (second pairs p) (first pairs r) || eqb (second pairs p) (second pairs r)

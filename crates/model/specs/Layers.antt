@@ -4,7 +4,7 @@ use Rattle.complex.specs.Numbers.{at}
 use Rattle.complex.specs.declared.Complex.{Complex}
 use Rattle.gates.specs.Gate.{gate_of}
 
--- how many pairs the bytes hold, the two qubits of pair p, and its gate
+-- how many pairs the bytes hold, the two qubits of pair p, and its gate, whose 16 complex numbers begin with number 16 p
 abbrev pub pair_count : List ℕ → ℕ
 pair_count pairs = length pairs / 2
 

@@ -7,7 +7,8 @@ use Rattle.model.specs.Slots.{State}
 use Rattle.model.specs.Layers.{layer_of}
 use Rattle.model.specs.Calls.{named_gate_call}
 use Rattle.model.specs.Lists.{Call, gate, named, layer, project, measure, reset, state_of, answer_of}
-use Rattle.model.specs.Statements.Demand1.{Late, Early, late}
+use Rattle.model.specs.Statements.Demand1.{Late, Early}
+use Rattle.model.specs.Statements.Pinned.{late}
 use Rattle.model.specs.Statements.Demand1Cuts.{labels_after, labels_through}
 use Rattle.model.proofs.Laws.Refusals.{decides_late}
 use Rattle.model.proofs.Laws.AfterStates.{gate_leaves}

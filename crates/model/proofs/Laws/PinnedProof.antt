@@ -13,6 +13,7 @@ use Rattle.model.specs.Moves.{Prepared, prepared, prepared_on, established}
 use Rattle.model.specs.Cut.{known, pair_of, rank_of, keeps_centre, prepared_for}
 use Rattle.model.specs.Statements.Table.{KeepsCentre, FirstIn, Resolvable, MadeAgain}
 use Rattle.model.specs.Statements.Pinned.{made_again, last_in, LastIn, Pinned}
+use Rattle.model.proofs.Laws.Refusals.{decides_late}
 use Rattle.model.proofs.Laws.SoundFacts.{sound_facts, facts_sound}
 use Rattle.model.proofs.Laws.Tests.{Decides, decides_as, decides_below, decides_least, decides_self, decides_not, decides_both, decides_either, decides_nans}
 
@@ -80,4 +81,5 @@ pinned = record {
   first = first_in;
   again = λ gate k s. ((decides_again gate k s).holds, (decides_again gate k s).fails);
   last = last_in_lem;
+  written = λ number. ((decides_late number).holds, (decides_late number).fails);
 }

@@ -24,7 +24,8 @@ use Rattle.model.specs.Born.{weight_at, total_at, readied}
 use Rattle.model.specs.Environment.{Env, left_env, right_env}
 use Rattle.model.specs.Start.{fresh_chain, fresh_store, zero_chain}
 use Rattle.model.specs.Calls.{After, applied_of, first_among, first_of, short, outside, cleared, started, start_call, gate_refusal, project_refusal, project_answer, project_run, project_call, measure_refusal, measure_run, measure_call, reset_refusal, reset_run, reset_call, Walked, env_refusal, env_run, env_after, left_environment_call, right_environment_call}
-use Rattle.model.specs.Statements.Demand1.{Early, Late, late}
+use Rattle.model.specs.Statements.Demand1.{Early, Late}
+use Rattle.model.specs.Statements.Pinned.{late}
 use Rattle.model.specs.Statements.Table.{Row, ◌when◌, FirstGround, OutOfRange, ShortStore, ShortSlice, Unsound, NoQubit, NotFinite, NoGate, NoDraw, start_table, project_table, measure_table, reset_table, environment_table}
 use Rattle.model.specs.Statements.Soundness.{Sound}
 use Rattle.model.proofs.Laws.SoundFacts.{settings_facts, facts_settings, sound_facts, facts_sound}

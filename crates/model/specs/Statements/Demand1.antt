@@ -1,6 +1,6 @@
 -- DEMAND 1: what every call answers, and what it leaves of its record and slices, on all inputs. Where a gate stops that 6 or 7 refuses, `Demand1Cuts` says.
 -- Statements only; `Laws/Demand1Proofs` proves them.
-use Rattle.std.specs.Prelude.{ℕ, ◌*◌, ◌+◌, ◌-◌, ◌≤◌, ◌<◌, min, max, ◌≡◌, ◌⊎◌, ◌↔◌, Bool, not, ◌||◌, List, [], ◌∷◌, T, eqb, length, take, drop, replicate, Float, Option, None, Some, Ok}
+use Rattle.std.specs.Prelude.{ℕ, ◌*◌, ◌+◌, ◌-◌, ◌≤◌, ◌<◌, min, max, ◌≡◌, ◌⊎◌, ◌↔◌, Bool, not, List, [], ◌∷◌, T, length, take, drop, replicate, Float, Option, None, Some, Ok}
 use Rattle.std.specs.Float.{binary64}
 use Rattle.std.specs.Float.Ieee.{div, le}
 use Rattle.complex.specs.Complex.{zero_f}
@@ -48,10 +48,6 @@ Late number = (number ≡ 0) ⊎ ((number ≡ 6) ⊎ (number ≡ 7))
 
 abbrev pub Early : ℕ → Type 0
 Early number = Late number → ⊥
-
--- the test
-abbrev pub late : ℕ → Bool
-late number = eqb number 0 || eqb number 6 || eqb number 7
 
 -- the work slice: as it was where nothing is written; else +0 as far as the call needs it; past that always as it was
 pub record WorkLeft (d number : ℕ) (before after : List Float) : Type 0 where

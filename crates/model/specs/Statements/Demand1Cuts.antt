@@ -19,8 +19,7 @@ use Rattle.model.specs.Answers.{Applied, view_applied, view_layered}
 use Rattle.model.specs.Calls.{After, gate_call, named_gate_call, layer_call}
 use Rattle.model.specs.Lists.{Call, gate, named, layer, project, measure, reset, left, state_of, final_state}
 use Rattle.model.specs.Statements.Table.{AboveWorkspace, NanIn, gate_steps}
-use Rattle.model.specs.Statements.Demand1.{late}
-use Rattle.model.specs.Statements.Pinned.{last_in}
+use Rattle.model.specs.Statements.Pinned.{last_in, late}
 
 -- ---- the shares of the cuts that are stored
 
