@@ -1,6 +1,6 @@
 -- Laws of `specs/FromUnits.antt`.
 use Rattle.std.specs.Prelude.{◌≡◌, ℕ, ◌+◌, ◌*◌, ◌^◌, ◌<◌, ◌≤◌, Bool, false, cond, T, nat_lt, to_bits, refl, Float}
-use Rattle.std.proofs.Common.{sym, ◌∙◌, subst, le_antisymm, le_of_lt, lt_of_le_of_lt, lt_of_not-le, not-le_of_lt, mul-pos, lt→ltb, lit<, pow_pos}
+use Rattle.std.proofs.Common.{sym, ◌∙◌, subst, inl, inr, eq-zero-or-pos, le_antisymm, le_of_lt, lt_of_le_of_lt, lt_of_not-le, not-le_of_lt, mul-pos, arith, lt→ltb, lit<, pow_pos}
 use Rattle.std.proofs.Math.Path.{ap}
 use Rattle.std.proofs.Math.Decide.{dec_le}
 use Rattle.std.proofs.Math.Arith.{le→nltb}
@@ -68,6 +68,9 @@ module _ (h g : ℕ) (S : Significand h g) where
 module _ (b m e : ℕ) (D : Decodes b m e) (below : b < 0x7FF0_0000_0000_0000) where
   decoded_digits : Significand m e
   decoded_digits = (le_of_lt D.few, D.full)
+
+  pub decoded_exponent : e < 2046
+  decoded_exponent = elim (eq-zero-or-pos e) [ inl z ↦ omega (arith, z) | inr p ↦ omega (arith, D.value, D.full p, below) ]
 
   pub decoded_value : of_bits binary64 b ≡ units binary64 false m e
   decoded_value = ap (of_bits binary64) D.value ∙ pattern_below m e decoded_digits (le_of_lt (subst (λ (x : ℕ). x < 0x7FF0_0000_0000_0000) D.value below))

@@ -1,5 +1,5 @@
 -- Laws of `specs/HalfRoot.antt`.
-use Rattle.std.proofs.Common.{ltb-true, sym, ◌∙◌, subst, inl, inr, le_refl, le_trans, le_of_eq, lt_trans, lt_of_le_of_lt, lt_of_lt_of_le, lt_of_not-le, eq-or-lt_of_le, mul-le-mul, add-le-add, lt→ltb, lit<}
+use Rattle.std.proofs.Common.{ltb-true, sym, ◌∙◌, subst, inl, inr, zero-add, le_refl, le_trans, le_of_eq, lt_trans, lt_of_le_of_lt, lt_of_lt_of_le, lt_of_not-le, eq-or-lt_of_le, mul-le-mul, add-le-add, lt→ltb, lit<}
 use Rattle.std.specs.Prelude.{◌≡◌, ℕ, suc, ◌+◌, ◌-◌, ◌*◌, ◌/◌, ◌%◌, ◌^◌, ◌<◌, ◌≤◌, Bool, true, false, ◌&&◌, ◌||◌, nat_lt, refl, Float}
 use Rattle.std.proofs.Math.Path.{ap}
 use Rattle.std.proofs.Math.Bool.{or-true, and-eq-true_iff}
@@ -121,6 +121,9 @@ module _ (n : Wide) (g h : ℕ) (A : Halvable n g) (some : 0 < h) (t : (nat_lt (
       even : (v : ℕ) → 2 * h - 1 < v → v < 2 * h + 1 → v ≡ 2 * h
       even v l k = omega (arith, some)
 
+  pub tested_digits : Significand h g
+  tested_digits = subst (λ (x : ℕ). Significand x g) is_half (half_few v more (side_lt v (2 ^ 54) (lt_of_le_of_lt root_v.low (omega (arith, A.upper, n.low)))), λ p. half_least v more (le_of_suc-le-suc (side_lt (2 ^ 53) (suc v) (lt_of_le_of_lt (omega (arith, A.full p)) root_v.high))))
+
   pub tested : units binary64 false h g ≡ half_root (whole n) n.cut g
   unfolding half_root
   tested = ap (λ (x : ℕ). units binary64 false x g) (sym is_half)
@@ -137,3 +140,15 @@ module _ (w r : ℕ) (rest : r ≤ 2 * w) where
       let f : w ≡ whole_root 54 N = only_root N w (whole_root 54 N) (root_of_rest N w r (record { value = e; rest = rest })) (whole_root_lem 54 N (omega (arith, h, n.low))) in
       let d : r ≡ N - w * w = omega (arith, e) in
       ap (λ (x : ℕ). units binary64 false (nearest_half w (n.cut || nat_lt 0 x)) g) d ∙ ap (λ (x : ℕ). units binary64 false (nearest_half x (n.cut || nat_lt 0 (N - x * x))) g) f
+
+-- the digits of hi, and then those of lo, are found in two runs
+module _ (hi lo : ℕ) (H : hi < 2 ^ 54) (L : lo < 2 ^ 54) (p s : ℕ) (P : RootRest ((0 * 0 + 0) * 2 ^ 54 + hi) p s) where
+  first : RootRest hi p s
+  first = subst (λ (x : ℕ). RootRest x p s) (zero-add hi) P
+
+  pub first_few : p < 2 ^ 27
+  first_few = side_lt p (2 ^ 27) (lt_of_le_of_lt (root_of_rest hi p s first).low H)
+
+  module _ (w r : ℕ) (W : RootRest ((p * p + s) * 2 ^ 54 + lo) w r) (g : ℕ) (full : 0 < g → 2 ^ 52 ≤ hi) (short : w < 2 ^ 54) where
+    pub half_digits : (cut : Bool) → Significand (nearest_half w (cut || nat_lt 0 r)) g
+    half_digits cut = (half_few w (cut || nat_lt 0 r) short, λ l. half_long w r W.rest cut (omega (arith, full l, first.value, W.value)))

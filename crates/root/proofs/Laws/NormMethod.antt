@@ -1,6 +1,6 @@
 -- Laws of `specs/NormMethod.antt`.
 use Rattle.std.specs.Prelude.{◌≡◌, ℕ, zero, suc, ◌+◌, ◌-◌, ◌*◌, ◌/◌, ◌%◌, ◌^◌, ◌<◌, ◌≤◌, Bool, false, ◌||◌, from_bits, nat_lt, refl, Float}
-use Rattle.std.proofs.Common.{sym, ap, ap₂, ◌∙◌, subst, zero-le, le_trans, le_of_eq, lt_of_le_of_lt, lt_of_lt_of_le, mul-pos, mul-le-mul, mul-le-mul_left, le-add_right, div-lt_iff_lt-mul, le_of_suc-le-suc, lt_of_not-le, arith, lit<, pow_pos, pow-add, pow_mono}
+use Rattle.std.proofs.Common.{sym, ap, ap₂, ◌∙◌, subst, inl, inr, eq-zero-or-pos, zero-le, le_trans, le_of_eq, lt_of_le_of_lt, lt_of_lt_of_le, mul-pos, mul-le-mul, mul-le-mul_left, le-add_right, div-lt_iff_lt-mul, div-le_self, le_of_suc-le-suc, lt_of_not-le, arith, lit<, pow_pos, pow-add, pow_mono}
 use Rattle.std.proofs.Math.Nat.{mul-mul-mul_comm}
 use Rattle.std.specs.Float.{binary64}
 use Rattle.std.specs.Float.Ieee.{units}
@@ -113,6 +113,12 @@ module _ (x y a e b f : ℕ) (X : Decodes x a e) (Y : Decodes y b f) (ordered : 
       more : Bool
       more = nat_lt 0 (4 * exact % (2 ^ e * 2 ^ e)) || nat_lt 0 small
 
+  pub sum_high : total < 2 ^ 109
+  sum_high = below_both (square a) (square b) (square b / 4 ^ distance) (square_below a X.few) (square_below b Y.few) (div-le_self (square b) (4 ^ distance))
+    where
+      below_both : (A B C : ℕ) → A < 2 ^ 108 → B < 2 ^ 108 → C ≤ B → A + C < 2 ^ 109
+      below_both A B C h k l = omega arith
+
   -- ---- nearer, N / 4 ^ j has 108 digits at most, where j is the digit that the sum N has more than those
 
   pub near : (j : ℕ) → total / 4 ^ j < 2 ^ 108 → (0 < e + j → 2 ^ 106 ≤ total / 4 ^ j) → half_root (total / 4 ^ j) (cut || nat_lt 0 (total % 4 ^ j)) (e + j) ≡ nearest_root exact
@@ -123,3 +129,13 @@ module _ (x y a e b f : ℕ) (X : Decodes x a e) (Y : Decodes y b f) (ordered : 
         where
           larger : 2 ^ e * 2 ^ e * 4 ^ j ≡ 2 ^ (e + j) * 2 ^ (e + j)
           larger = rw (pow-add 2 e j, four_square j) (mul-mul-mul_comm (2 ^ e) (2 ^ e) (2 ^ j) (2 ^ j))
+
+  module _ (hi lo : ℕ) (words : hi * 2 ^ 54 + lo ≡ total) (L : lo < 2 ^ 54) where
+    abbrev j : ℕ
+    j = hi / 2 ^ 54
+
+    pub longer_le : j ≤ 1
+    longer_le = omega (arith, words, sum_high)
+
+    pub longer_range : (total / 4 ^ j < 2 ^ 108) × (0 < e + j → 2 ^ 106 ≤ total / 4 ^ j)
+    longer_range = let r = subst (λ (n : ℕ). (n / 4 ^ j < 2 ^ 108) × (2 ^ 106 ≤ n → 2 ^ 106 ≤ n / 4 ^ j)) words (longer (record { hi = hi; lo = lo; cut = cut; low = L }) (omega (arith, words, sum_high))) in (r.0, λ p. r.1 (elim (eq-zero-or-pos e) [ inl z ↦ omega (arith, words, z, p) | inr l ↦ sum_low a b distance (X.full l) ]))

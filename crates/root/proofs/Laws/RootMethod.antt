@@ -11,7 +11,7 @@ use Rattle.root.proofs.Laws.Root.{root_instance}
 use Rattle.root.specs.NearestRoot.{nearest_root}
 use Rattle.root.proofs.Laws.NearestRootLaws.{nearest_root_lem}
 use Rattle.root.specs.FromUnits.{Decodes}
-use Rattle.root.proofs.Laws.FromUnits.{decoded_units, decoded_positive}
+use Rattle.root.proofs.Laws.FromUnits.{decoded_exponent, decoded_units, decoded_positive}
 use Rattle.root.proofs.Laws.NearestHalf.{parity}
 use Rattle.root.specs.Cut.{Cut}
 use Rattle.root.proofs.Laws.Cut.{cut_whole, cut_scaled}
@@ -41,6 +41,9 @@ module _ (m e : ℕ) (some : 0 < m) (short : m < 2 ^ 53) where
 
   pub zeros_least : 11 ≤ zeros
   zeros_least = omega (arith, counted.all, counted.few)
+
+  pub zeros_range : (11 ≤ zeros) × (zeros < 64)
+  zeros_range = (zeros_least, omega (arith, counted.all))
 
   abbrev z : ℕ
   z = zeros - 11
@@ -82,6 +85,9 @@ module _ (m e : ℕ) (some : 0 < m) (short : m < 2 ^ 53) where
   -- ---- four times the exact square of m * 2 ^ e units, the value with the pattern b
 
   module _ (b : ℕ) (D : Decodes b m e) (below : b < 0x7FF0_0000_0000_0000) where
+    pub exponents : (z ≤ e + 1076) × (27 ≤ t / 2) × (t / 2 < 2000)
+    exponents = (omega (arith, zeros_range.1), omega (arith, zeros_range.1), omega (arith, decoded_exponent b m e D below))
+
     abbrev q : ℕ
     q = in_units (from_bits binary64 b) * 2 ^ 1074
 

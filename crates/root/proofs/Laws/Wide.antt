@@ -1,11 +1,39 @@
 -- Laws of `specs/Wide.antt`.
-use Rattle.std.proofs.Common.{sym, ap, ap₂, ◌∙◌, subst, one-mul, add-mul, mul_assoc, mul_comm, add_comm, div-lt_iff_lt-mul, mod-lt, div-add-mod', arith, lit<, pow-add, shl_exact}
-use Rattle.std.specs.Prelude.{◌≡◌, ℕ, ◌+◌, ◌-◌, ◌*◌, ◌/◌, ◌%◌, ◌^◌, ◌<◌, ◌≤◌}
+use Rattle.std.proofs.Common.{lt-ltb, le-ltb, eq-eqb, ne_eqb, sym, ap, ap₂, ◌∙◌, subst, inl, inr, le_refl, lt_irrefl, lt_of_not-le, eq-or-lt_of_le, one-mul, add-mul, mul_assoc, mul_comm, add_comm, div-lt_iff_lt-mul, lt_of_le_of_lt, mul-le-mul, mod-lt, div-add-mod', arith, lit<, pow-add, shl_exact}
+use Rattle.std.specs.Prelude.{◌≡◌, ℕ, ◌+◌, ◌-◌, ◌*◌, ◌/◌, ◌%◌, ◌^◌, ◌<◌, ◌≤◌, ◌&&◌, ◌||◌, ◌==◌, nat_lt, refl}
 use Rattle.std.proofs.Math.Nat.{add-mul-mod_self_left, add-mul-div_right}
+use Rattle.std.proofs.Math.Decide.{dec_le}
 use Rattle.std.proofs.Math.Arith.{digits_lt}
 use Rattle.root.proofs.Laws.PowersOfFour.{four_pow, four_pos}
 use Rattle.root.specs.declared.wide.Wide.{Wide}
 use Rattle.root.specs.Wide.{whole, low_word}
+
+-- how large the upper word is
+pub upper_lt : (hi lo N : ℕ) → hi * 2 ^ 54 + lo ≡ N → N < 2 ^ 108 → hi < 2 ^ 54
+upper_lt hi lo N e h = omega arith
+
+pub upper_ge : (hi lo N : ℕ) → hi * 2 ^ 54 + lo ≡ N → lo < 2 ^ 54 → 2 ^ 106 ≤ N → 2 ^ 52 ≤ hi
+upper_ge hi lo N e l h = omega arith
+
+-- the words are compared, the upper ones first
+pub whole_lt : (m n : Wide) → (nat_lt m.hi n.hi || (m.hi == n.hi && nat_lt m.lo n.lo)) ≡ nat_lt (whole m) (whole n)
+whole_lt m n = words m.hi m.lo n.hi n.lo m.low n.low
+  where
+    words : (a b c d : ℕ) → b < 2 ^ 54 → d < 2 ^ 54 → (nat_lt a c || (a == c && nat_lt b d)) ≡ nat_lt (a * 2 ^ 54 + b) (c * 2 ^ 54 + d)
+    words a b c d B D = elim (dec_le c a) [
+      | no n ↦ rw (lt-ltb a c (lt_of_not-le n), lt-ltb (a * 2 ^ 54 + b) (c * 2 ^ 54 + d) (omega (arith, lt_of_not-le n))) refl
+      | yes h ↦ elim (eq-or-lt_of_le h) [
+        | inl e ↦ rw (e, le-ltb a a (le_refl a), eq-eqb a a refl) (elim (dec_le d b) [
+          | yes k ↦ le-ltb b d k ∙ sym (le-ltb (a * 2 ^ 54 + b) (a * 2 ^ 54 + d) (omega (arith, k)))
+          | no k ↦ lt-ltb b d (lt_of_not-le k) ∙ sym (lt-ltb (a * 2 ^ 54 + b) (a * 2 ^ 54 + d) (omega (arith, lt_of_not-le k)))
+        ])
+        | inr l ↦ rw (le-ltb a c h, ne_eqb a c (λ e. lt_irrefl a (subst (λ (x : ℕ). x < a) (sym e) l)), le-ltb (a * 2 ^ 54 + b) (c * 2 ^ 54 + d) (omega (arith, l))) refl
+      ]
+    ]
+
+-- the products of m's halves
+pub products : (m : ℕ) → m < 2 ^ 54 → let a = m / 2 ^ 27 in let b = m % 2 ^ 27 in (a * b < 2 ^ 54) × (b * b < 2 ^ 54) × (a * a < 2 ^ 54)
+products m h = let A : m / 2 ^ 27 ≤ 2 ^ 27 - 1 = omega arith in let B : m % 2 ^ 27 ≤ 2 ^ 27 - 1 = omega arith in (lt_of_le_of_lt (mul-le-mul A B) (lit< tt), lt_of_le_of_lt (mul-le-mul B B) (lit< tt), lt_of_le_of_lt (mul-le-mul A A) (lit< tt))
 
 pub square_whole : (m : ℕ) → let a = m / 2 ^ 27 in let b = m % 2 ^ 27 in (a * a + a * b / 2 ^ 26 + low_word a b / 2 ^ 54) * 2 ^ 54 + low_word a b % 2 ^ 54 ≡ m * m
 square_whole m = halves (m / 2 ^ 27) (m % 2 ^ 27) ∙ ap (λ (x : ℕ). x * x) (div-add-mod' m (2 ^ 27))
