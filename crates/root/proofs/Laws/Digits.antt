@@ -2,10 +2,23 @@
 use Rattle.std.specs.Prelude.{◌≡◌, ℕ, ◌+◌, ◌-◌, ◌*◌, ◌/◌, ◌%◌, ◌^◌, ◌<◌, ◌≤◌}
 use Rattle.std.proofs.lemmas.Bool.Decides.{leb_tells}
 use mir.Val.{bool_byte}
-use Rattle.std.proofs.Common.{leb, refl, sym, ap, ◌∙◌, subst, inl, inr, mul_assoc, pow-suc, add-one, arith}
+use Rattle.std.proofs.Common.{leb, refl, sym, ap, ◌∙◌, subst, inl, inr, lt_of_lt_of_le, mul-le-mul_left, mul_assoc, pow-suc, add-one, arith, pow_mono}
 use Rattle.std.proofs.Math.Nat.{two-pow-succ}
 use Rattle.root.specs.Whole.{RootRest}
 use Rattle.root.specs.Digits.{fed, After, Digit}
+
+pub before_turns : (s q r : ℕ) → s < 2 ^ 64 → q < 2 ^ 27 → r ≤ 2 * q → After s (q * q + r) 0 s q r
+before_turns s q r h few rest = record { word = omega arith; few = few; found = record { value = omega arith; rest = rest } }
+
+pub root_lt : {s n j s' q r : ℕ} → After s n j s' q r → j ≤ 27 → q < 2 ^ 54
+root_lt A l = lt_of_lt_of_le A.few (mul-le-mul_left (2 ^ 27) (pow_mono l))
+
+-- after the last turn all 54 digits of d have come in, which the word began with
+pub after_turns : {d n s' q r : ℕ} → d < 2 ^ 54 → After (d * 2 ^ 10 % 2 ^ 64) n 27 s' q r → RootRest (n * 2 ^ 54 + d) q r
+after_turns {d} {n} {s'} {q} {r} h A = subst (λ (x : ℕ). RootRest x q r) (all n d h) A.found
+  where
+    all : (n d : ℕ) → d < 2 ^ 54 → fed 27 (d * 2 ^ 10 % 2 ^ 64) n ≡ n * 2 ^ 54 + d
+    all n d h = omega arith
 
 next_fed : (j s n : ℕ) → fed (j + 1) s n ≡ 4 * fed j s n + s * 4 ^ j % 2 ^ 64 / 2 ^ 62
 next_fed j s n = rw (add-one j, pow-suc 4 j) (at (n * 4 ^ j) (s * 4 ^ j) (sym (mul_assoc n (4 ^ j) 4)) (sym (mul_assoc s (4 ^ j) 4)))
