@@ -72,7 +72,7 @@ fn decompose_pair(mps: &mut Mps, gate: [[Complex; 4]; 4], k: usize) -> Option<De
         gate: &gate,
         bonds: pair_bonds(mps.chain, k),
     };
-    decompose(&pair, work, mps.chain.norm_clamp_min)
+    decompose(&pair, work, mps.chain.norm_clamp_min).ok()
 }
 
 // A decomposition, and what is kept of its values.

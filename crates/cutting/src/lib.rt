@@ -1,7 +1,7 @@
 // What one cut does below the chain record, on slices and numbers: the pair's decomposition at the front of the work slice, what is kept of its values, and the two sites made of its factors.
 #![tactic(auto)]
 
-ghost use Rattle.std.specs.Prelude.{◌≡◌, ◌*◌, ◌≤◌, IfSome, is_none, length, take};
+ghost use Rattle.std.specs.Prelude.{◌≡◌, ◌*◌, ◌≤◌, is_err, length, take, MatchResult};
 ghost use Rattle.model.specs.Slots.{filled};
 ghost use Rattle.model.specs.Svd.{values};
 ghost use Rattle.model.specs.Pair.{gated_theta, pair_svd, left_site, right_site};
@@ -74,22 +74,24 @@ pub struct Decomposed {
     pub order: [u8; 256],
 }
 
-// The pair with the gate on it, decomposed; nothing where one of its values is a NaN, with the decomposition in the work slice all the same. Here and in kept_values the settings
+// The pair with the gate on it, decomposed at the front of the work slice. Answers the decomposition: as `Ok`, or as `Err` where one of its values is a NaN. Here and in kept_values the settings
 // stay single numbers: kernels below moves take slices and numbers, and may not name the record that holds the settings.
 #[tactic(auto, using(crate::specs::Shape::shape_columns, crate::specs::Shape::shape_most, crate::specs::Shape::shape_cells, crate::specs::Shape::shape_room, crate::proofs::Lent::lengths, crate::proofs::Lent::nan_told, crate::proofs::Lent::begins_told))]
-pub fn decompose(pair: &Neighbours, work: &mut [f64], clamp: f64) -> Option<Decomposed>
+pub fn decompose(pair: &Neighbours, work: &mut [f64], clamp: f64) -> Result<Decomposed, Decomposed>
     requires le_left { (1 ≤ pair.now.bonds.left) × (1 ≤ pair.now.bonds.right) }
     requires work_bound { room (shape_of pair.now.bonds.left pair.now.bonds.right) ≤ length work.old }
-    ensures nan { let d = pair_svd clamp pair.now.bonds.left pair.now.bonds.mid pair.now.bonds.right pair.now.gate.now pair.now.left.now pair.now.right.now in is_none result ≡ nan_in d }
+    ensures nan { let d = pair_svd clamp pair.now.bonds.left pair.now.bonds.mid pair.now.bonds.right pair.now.gate.now pair.now.left.now pair.now.right.now in is_err result ≡ nan_in d }
     ensures work_after { let d = pair_svd clamp pair.now.bonds.left pair.now.bonds.mid pair.now.bonds.right pair.now.gate.now pair.now.left.now pair.now.right.now in take (room (shape_of pair.now.bonds.left pair.now.bonds.right)) work.new ≡ d.w }
-    ensures made { let d = pair_svd clamp pair.now.bonds.left pair.now.bonds.mid pair.now.bonds.right pair.now.gate.now pair.now.left.now pair.now.right.now in IfSome result (Made pair.now.bonds.left pair.now.bonds.right d work.new) }
+    ensures made { let d = pair_svd clamp pair.now.bonds.left pair.now.bonds.mid pair.now.bonds.right pair.now.gate.now pair.now.left.now pair.now.right.now in MatchResult result (Made pair.now.bonds.left pair.now.bonds.right d work.new) (Made pair.now.bonds.left pair.now.bonds.right d work.new) }
 {
     let s = shape_of(pair.bonds.left, pair.bonds.right);
     let m = 2 * (s.wide * s.high);
     let end = 2 * (s.vals + s.wide);
     contract_pair(s.adjoint, pair, &mut work[..m]);
-    let order = svd_jacobi(&mut work[..end], s.high, s.wide, clamp)?;
-    Some(Decomposed { shape: s, order })
+    match svd_jacobi(&mut work[..end], s.high, s.wide, clamp) {
+        Ok(order) => Ok(Decomposed { shape: s, order }),
+        Err(order) => Err(Decomposed { shape: s, order }),
+    }
 }
 
 // ---- what is kept

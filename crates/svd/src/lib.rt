@@ -2,7 +2,7 @@
 // the matrix and the rotations as in jacobi, and behind them the values, each with the imaginary part +0.
 #![tactic(auto, using(complex::specs::Loops::each_none, complex::specs::Loops::each_more, complex::specs::Loops::between_none, complex::specs::Loops::between_more), unfolding(model::specs::Svd::identity_at, model::specs::Svd::normalised, model::specs::Svd::factored, model::specs::Svd::any_nan, model::specs::Svd::order_of))]
 
-ghost use Rattle.std.specs.Prelude.{◌≡◌, ◌+◌, ◌*◌, ◌<◌, ◌≤◌, length, get_or, take, is_none, IfSome};
+ghost use Rattle.std.specs.Prelude.{◌≡◌, ◌+◌, ◌*◌, ◌<◌, ◌≤◌, length, get_or, take, is_err, MatchResult};
 ghost use Rattle.complex.specs.Loops.{each, between, tabulate};
 ghost use Rattle.complex.specs.Numbers.{count, at};
 ghost use Rattle.model.specs.Svd.{identity_at, values_at, normalised, factored, any_nan, tallied, place, order_of};
@@ -121,13 +121,18 @@ impl<'a> Values<'a> {
     }
 }
 
-// The decomposition of the matrix that w begins with; the rest of w is room for the rotations and the values. Answers their
-// order, or nothing where one is a NaN.
-pub fn svd_jacobi(w: &mut [f64], high: usize, wide: usize, clamp: f64) -> Option<[u8; 256]>
+// The decomposition of the matrix that w begins with; the rest of w is room for the rotations and the values. Answers the
+// order of the values: as `Ok`, or as `Err` where one of them is a NaN.
+pub fn svd_jacobi(
+    w: &mut [f64],
+    high: usize,
+    wide: usize,
+    clamp: f64,
+) -> Result<[u8; 256], [u8; 256]>
     requires { (wide ≤ 256) × (length w.old ≡ 2 * (wide * high + wide * wide + wide)) }
     ensures w_after { w.new ≡ factored high wide clamp (take (2 * (wide * high)) w.old) }
-    ensures nan_value { is_none result ≡ any_nan wide (λ k. (at w.new (values_at high wide + k)).re) }
-    ensures order_value { IfSome result (λ order. order ≡ order_of wide (λ k. (at w.new (values_at high wide + k)).re)) }
+    ensures nan_value { is_err result ≡ any_nan wide (λ k. (at w.new (values_at high wide + k)).re) }
+    ensures order_value { let o = order_of wide (λ k. (at w.new (values_at high wide + k)).re) in MatchResult result (λ order. order ≡ o) (λ order. order ≡ o) }
 {
     let matrix = wide * high;
     let s = Sizes {
@@ -144,10 +149,11 @@ pub fn svd_jacobi(w: &mut [f64], high: usize, wide: usize, clamp: f64) -> Option
         base: s.len,
         n: wide,
     };
+    let order = values.sort_columns();
     if values.any_nan() {
-        return None;
+        return Err(order);
     }
-    Some(values.sort_columns())
+    Ok(order)
 }
 
 // The values from base on, as many as s has room for, into s in an order of their columns.
