@@ -105,8 +105,8 @@ length_line line = simp length-append (omega (arith, length_decimal line.kind, l
 -- the kind, a space, the number, the detail and a newline, written behind each other; a, b and d are what each text leaves
 pub wrote_line : (l : List ℕ) (line : Line) (a b d : List ℕ) (r s u : ℕ) → line_room ≤ length l
     → Wrote l 0 (decimal line.kind) a r → Wrote (set a r 32) (r + 1) (decimal line.number) b s → Wrote b s (detail_text line.detail) d u
-    → set d u 10 ≡ written line l
-unfolding line_text written
+    → (set d u 10 ≡ written line l) × (u + 1 ≡ written_length line l)
+unfolding line_text written written_length
 wrote_line l line a b d r s u h f g k =
     let t1 = decimal line.kind ++ (32 ∷ []) in
     let t2 = t1 ++ decimal line.number in
@@ -115,11 +115,11 @@ wrote_line l line a b d r s u h f g k =
     let w2 = chain l (set a r 32) b t1 (decimal line.number) 0 (r + 1) s w1 g in
     let w3 = chain l b d t2 (detail_text line.detail) 0 s u w2 k in
     let w = chain l d (set d u 10) t3 (10 ∷ []) 0 u (u + 1) w3 (refl, refl) in
-    rw (le-ltb (length l) line_room h) (w.0 ∙ sets_front (line_text line) l (le_trans (length_line line) h))
+    rw (le-ltb (length l) line_room h) (w.0 ∙ sets_front (line_text line) l (le_trans (length_line line) h), w.1 ∙ zero-add _)
 
-pub no_room : (l : List ℕ) (line : Line) → length l < line_room → l ≡ written line l
-unfolding written
-no_room l line h = rw (lt-ltb (length l) line_room h)
+pub no_room : (l : List ℕ) (line : Line) → length l < line_room → (l ≡ written line l) × (0 ≡ written_length line l)
+unfolding written written_length
+no_room l line h = rw (lt-ltb (length l) line_room h) (refl, refl)
 
 -- how many bytes those are
 pub length_room : (l : List ℕ) (line : Line) → line_room ≤ length l → written_length line l ≡ length (decimal line.kind) + 1 + length (decimal line.number) + length (detail_text line.detail) + 1
