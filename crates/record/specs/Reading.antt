@@ -1,5 +1,5 @@
 -- Reading a run record: bytes begin at its length, and may end before it or go on past it.
-use Rattle.std.specs.Prelude.{◌≡◌, Bool, true, false, ◌&&◌, cond, List, ℕ, ◌+◌, ◌≤◌, ◌<◌, eqb, leb, length, take, drop, Option, Some, None, is_some}
+use Rattle.std.specs.Prelude.{◌≡◌, Bool, true, false, ◌&&◌, cond, List, ℕ, ◌+◌, ◌≤◌, ◌<◌, eqb, leb, length, take, drop, Option, Some, None, is_some, Result, Ok, Err, is_ok, ok_or}
 use Rattle.std.proofs.Math.Path.{refl, sym}
 use Rattle.std.proofs.Common.{ap, subst, ◌∙◌, le_of_lt, arith, length-take-le, take_all}
 use borrow.Author.Tests.{lt-leb, le-leb, ne_eqb, eq-eqb, leb-true, leb-false, eqb-true, eqb-false}
@@ -23,11 +23,11 @@ accepted bytes =
     leb 4 (length bytes) && (eqb (length_of bytes) (2 + body_size (kind_of bytes)) && (leb (2 + length_of bytes) (length bytes) && valid (kind_of bytes) bytes))
 
 -- what is turned away is refused by 8
-abbrev pub turned_away : Option Record
-turned_away = None
+abbrev pub turned_away : Result Record ℕ
+turned_away = Err 8
 
-unfoldable pub read_of : List ℕ → Option Record
-read_of bytes = cond (accepted bytes) (record_in (kind_of bytes) bytes) turned_away
+unfoldable pub read_of : List ℕ → Result Record ℕ
+read_of bytes = cond (accepted bytes) (ok_or (record_in (kind_of bytes) bytes) 8) turned_away
 
 -- what follows the record
 abbrev pub next : List ℕ → List ℕ
@@ -61,12 +61,12 @@ module _ (bytes : List ℕ) where
   bad_fields h = away (rw h (simp and_false))
 
   -- where length and kind are there and fit, what is read is the record that the bytes hold
-  pub taken : 4 ≤ length bytes → length_of bytes ≡ 2 + body_size (kind_of bytes) → 2 + length_of bytes ≤ length bytes → record_in (kind_of bytes) bytes ≡ read_of bytes
+  pub taken : 4 ≤ length bytes → length_of bytes ≡ 2 + body_size (kind_of bytes) → 2 + length_of bytes ≤ length bytes → ok_or (record_in (kind_of bytes) bytes) 8 ≡ read_of bytes
   unfolding accepted read_of
   taken a b c =
       rw (le-leb 4 (length bytes) a, eq-eqb (length_of bytes) (2 + body_size (kind_of bytes)) b, le-leb (2 + length_of bytes) (length bytes) c) (held (record_in (kind_of bytes) bytes))
     where
-      held : (r : Option Record) → r ≡ cond (is_some r) r turned_away
+      held : (r : Option Record) → ok_or r 8 ≡ cond (is_some r) (ok_or r 8) turned_away
       held None = refl
       held (Some r) = refl
 
@@ -96,13 +96,17 @@ accepted_valid bytes e =
     let named = eqb (length_of bytes) (2 + body_size (kind_of bytes)) && fits in
     subst T (sym (and_right (leb (2 + length_of bytes) (length bytes)) v (and_right (eqb (length_of bytes) (2 + body_size (kind_of bytes))) fits (and_right (leb 4 (length bytes)) named e)))) tt
 
-pub read_kind : (bytes : List ℕ) (r : Record) → read_of bytes ≡ Some r → (kind_of_record r ≡ kind_of bytes) × (1 ≤ kind_of bytes) × (kind_of bytes ≤ 6)
+some_of_ok : {A : Type 0} (o : Option A) (k : ℕ) (x : A) → ok_or o k ≡ Ok x → o ≡ Some x
+some_of_ok None k x e = cc
+some_of_ok (Some y) k x e = cc
+
+pub read_kind : (bytes : List ℕ) (r : Record) → read_of bytes ≡ Ok r → (kind_of_record r ≡ kind_of bytes) × (1 ≤ kind_of bytes) × (kind_of bytes ≤ 6)
 unfolding read_of
 read_kind bytes r e = by (accepted bytes) refl e
   where
-    by : (t : Bool) → accepted bytes ≡ t → cond t (record_in (kind_of bytes) bytes) turned_away ≡ Some r → (kind_of_record r ≡ kind_of bytes) × (1 ≤ kind_of bytes) × (kind_of bytes ≤ 6)
-    by true a e = let k = valid_kind (kind_of bytes) bytes (accepted_valid bytes a) in (sym (record_kind (kind_of bytes) bytes r e), k.0, k.1)
-    by false a e = absurd (subst T (ap is_some (sym e)) tt)
+    by : (t : Bool) → accepted bytes ≡ t → cond t (ok_or (record_in (kind_of bytes) bytes) 8) turned_away ≡ Ok r → (kind_of_record r ≡ kind_of bytes) × (1 ≤ kind_of bytes) × (kind_of bytes ≤ 6)
+    by true a e = let k = valid_kind (kind_of bytes) bytes (accepted_valid bytes a) in (sym (record_kind (kind_of bytes) bytes r (some_of_ok (record_in (kind_of bytes) bytes) 8 r e)), k.0, k.1)
+    by false a e = absurd (subst T (ap is_ok (sym e)) tt)
 
 -- ---- what stands behind the record has no part in what is read
 
@@ -126,7 +130,7 @@ module _ (bytes : List ℕ) (more : 2 + length_of bytes ≤ length bytes) (room 
     same_reading : read_of front ≡ read_of bytes
     same_reading =
         sym (taken front (omega (arith, length_front)) (same_length ∙ l ∙ ap (λ k. 2 + body_size k) (sym same_kind)) (omega (arith, length_front, same_length)))
-        ∙ same_record
+        ∙ ap (λ o. ok_or o 8) same_record
         ∙ taken bytes (omega arith) l more
 
   by_length : (t : Bool) → eqb (length_of bytes) (2 + body_size (kind_of bytes)) ≡ t → read_of front ≡ read_of bytes

@@ -1,5 +1,5 @@
 -- The worked records of document 01.
-use Rattle.std.specs.Prelude.{◌≡◌, refl, false, Some, List, [], ◌∷◌, ◌++◌, map, ℕ, replicate}
+use Rattle.std.specs.Prelude.{◌≡◌, refl, false, Ok, List, [], ◌∷◌, ◌++◌, map, ℕ, replicate}
 use Rattle.complex.specs.Complex.{zero_f}
 use Rattle.bytes_le.specs.Value.{value}
 use Rattle.gates.specs.declared.NamedGate.TheVariants.{Cx}
@@ -16,17 +16,17 @@ whole_case =
     ++ (0x04 ∷ 0x00 ∷ 0x04 ∷ 0x00 ∷ 0x00 ∷ 0x00 ∷ [])
 
 -- n 2, D 2, exponent 5, epsilon and clamp 0
-pub first_record : read_of whole_case ≡ Some (a.Start 2 2 5 zero_f zero_f)
+pub first_record : read_of whole_case ≡ Ok (a.Start 2 2 5 zero_f zero_f)
 unfolding value body_size field_bytes named_gate bit_in record_in accepted read_of
 first_record = refl
 
 -- Cx on (0, 1)
-pub second_record : read_of (next whole_case) ≡ Some (a.NamedGate 0 1 Cx)
+pub second_record : read_of (next whole_case) ≡ Ok (a.NamedGate 0 1 Cx)
 unfolding value body_size field_bytes named_gate bit_in record_in accepted read_of
 second_record = refl
 
 -- qubit 0 projected on 0
-pub third_record : read_of (next (next whole_case)) ≡ Some (a.Projection 0 false)
+pub third_record : read_of (next (next whole_case)) ≡ Ok (a.Projection 0 false)
 unfolding value body_size field_bytes named_gate bit_in record_in accepted read_of
 third_record = refl
 

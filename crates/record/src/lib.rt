@@ -202,22 +202,22 @@ fn record_in(bytes: &[u8], kind: u16) -> Option<Record>
     }
 }
 
-// The record that begins the bytes; they may go on past it. What does not read answers none, which a run refuses by 8.
+// The record that begins the bytes; they may go on past it. What does not read is refused by 8.
 #[tactic(auto, using(crate::specs::Layout::body_size_small, crate::specs::Reading::short, crate::specs::Reading::wrong_length, crate::specs::Reading::cut_off, crate::specs::Reading::taken))]
-pub fn read_record(bytes: &[u8]) -> Option<Record>
+pub fn read_record(bytes: &[u8]) -> Result<Record, u8>
     ensures { result ≡ read_of bytes.now }
 {
     let len = bytes.len();
     if len < 4 {
-        return None;
+        return Err(8);
     }
     let size = usize::from(u16_at(bytes, 0));
     let kind = u16_at(bytes, 2);
     if size != 2 + body_size(kind) {
-        return None;
+        return Err(8);
     }
     if len - 2 < size {
-        return None;
+        return Err(8);
     }
-    record_in(bytes, kind)
+    record_in(bytes, kind).ok_or(8)
 }

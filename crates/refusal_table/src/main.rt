@@ -79,10 +79,7 @@ fn stored_nan(store: &mut [f64], work: &mut [f64]) -> u8 {
 // 8: kind 9.
 fn unknown_kind() -> u8 {
     let bytes = [2u8, 0, 9, 0];
-    match read_record(&bytes) {
-        None => 8,
-        Some(_) => 0,
-    }
+    number(read_record(&bytes))
 }
 
 // A layer of two pairs on a fresh chain of four qubits, exponent 5. Both gates have ones at (0, 0) and (3, 0) alone, and

@@ -1,5 +1,5 @@
 -- One step of a run: what a record's bytes do to a session, and the line that is printed for them.
-use Rattle.std.specs.Prelude.{ℕ, Bool, true, false, not, cond, List, Float, Option, Some, None, Result, Ok, Err, is_ok}
+use Rattle.std.specs.Prelude.{ℕ, Bool, true, false, not, cond, List, Float, Result, Ok, Err, is_ok}
 use Rattle.complex.specs.declared.Complex.{Complex}
 use Rattle.gates.specs.declared.NamedGate.{NamedGate}
 use Rattle.model.specs.declared.Chain.{Chain}
@@ -111,13 +111,13 @@ in_turn started (a.Measure qubit flag draw) = started
 in_turn started (a.Reset qubit draw) = started
 
 -- a record that reads and may come now
-abbrev pub obeys : Session → Option Record → Bool
-obeys s None = false
-obeys s (Some r) = in_turn s.started r
+abbrev pub obeys : Session → Result Record ℕ → Bool
+obeys s (Ok r) = in_turn s.started r
+obeys s (Err k) = false
 
-abbrev pub read_step : Session → List Float → List Float → Option Record → Left
-read_step s store work None = turned_away s store work
-read_step s store work (Some r) = cond (in_turn s.started r) (kind_step s store work r) (turned_away s store work)
+abbrev pub read_step : Session → List Float → List Float → Result Record ℕ → Left
+read_step s store work (Ok r) = cond (in_turn s.started r) (kind_step s store work r) (turned_away s store work)
+read_step s store work (Err k) = turned_away s store work
 
 unfoldable pub step_of : Session → List Float → List Float → List ℕ → Left
 step_of s store work bytes = read_step s store work (read_of bytes)

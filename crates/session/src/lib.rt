@@ -170,7 +170,7 @@ pub fn step(session: Session, store: &mut [f64], work: &mut [f64], bytes: &[u8])
     ensures { left result.session result.line store.new work.new ≡ step_of session store.old work.old bytes.now }
 {
     match read_record(bytes) {
-        Some(read) if in_turn(session.started, read) => kind_record(session, store, work, read),
+        Ok(read) if in_turn(session.started, read) => kind_record(session, store, work, read),
         _ => turned_away(session),
     }
 }

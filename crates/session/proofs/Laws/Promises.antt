@@ -1,10 +1,9 @@
 -- Laws of `specs/Promises.antt`.
-use Rattle.std.specs.Prelude.{ℕ, ◌≤◌, ◌≡◌, Bool, not, List, [], ◌∷◌, ◌++◌, ltb, Float, length, Option, Some, None}
+use Rattle.std.specs.Prelude.{ℕ, ◌≤◌, ◌≡◌, Bool, not, List, [], ◌∷◌, ◌++◌, ltb, Float, length, Result, Ok, Err}
 use Rattle.std.proofs.Math.Path.{refl, ap}
 use Rattle.std.proofs.Common.{sym, subst, ◌∙◌}
 use Rattle.std.proofs.Math.Bool.{true, false, cond}
 use Rattle.std.proofs.Math.Dec.{T}
-use Rattle.std.specs.Prelude.{Ok, Err}
 use Rattle.model.specs.Answers.{Value, none, weight, nothing, bit, dimension, pair, View}
 use Rattle.model.specs.Slots.{store_room}
 use Rattle.model.specs.Sound.{settings_fit}
@@ -49,17 +48,17 @@ module _ (s : Session) (store work : List Float) where
   unfolding step_of
   turned bytes = by (read_of bytes)
     where
-      by : (r : Option Record) → obeys s r ≡ false → read_step s store work r ≡ turned_away s store work
-      by None e = refl
-      by (Some r) e = ap (λ (t : Bool). cond t (kind_step s store work r) (turned_away s store work)) e
+      by : (r : Result Record ℕ) → obeys s r ≡ false → read_step s store work r ≡ turned_away s store work
+      by (Err k) e = refl
+      by (Ok r) e = ap (λ (t : Bool). cond t (kind_step s store work r) (turned_away s store work)) e
 
   done : (bytes : List ℕ) → obeys s (read_of bytes) ≡ true → ((step_of s store work bytes).line.kind ≡ kind_of bytes) × (1 ≤ kind_of bytes)
   unfolding step_of
   done bytes = by (read_of bytes) refl
     where
-      by : (o : Option Record) → read_of bytes ≡ o → obeys s o ≡ true → ((read_step s store work o).line.kind ≡ kind_of bytes) × (1 ≤ kind_of bytes)
-      by None z e = absurd (subst T (sym e) tt)
-      by (Some r) z e =
+      by : (o : Result Record ℕ) → read_of bytes ≡ o → obeys s o ≡ true → ((read_step s store work o).line.kind ≡ kind_of bytes) × (1 ≤ kind_of bytes)
+      by (Err k) z e = absurd (subst T (sym e) tt)
+      by (Ok r) z e =
           let k = read_kind bytes r z in
           (ap (λ (t : Bool). (cond t (kind_step s store work r) (turned_away s store work)).line.kind) e ∙ kind_line s store work r ∙ k.0, k.1)
 
