@@ -3,7 +3,7 @@
 // Right and left are two functions each: mirror images, whose sums and orders differ in more than a constant.
 #![tactic(auto)]
 
-ghost use Rattle.std.specs.Prelude.{◌≡◌, ◌+◌, ◌*◌, ◌<◌, ◌≤◌, length};
+ghost use Rattle.std.specs.Prelude.{◌≡◌, ◌+◌, ◌*◌, ◌<◌, ◌≤◌, length, take};
 ghost use Rattle.complex.specs.Complex.{mul_c, conj_c, zero_c};
 ghost use Rattle.complex.specs.Loops.{sum_c};
 ghost use Rattle.complex.specs.Numbers.{count, at};
@@ -38,6 +38,18 @@ pub fn left_matrix(site: &[f64], out: &mut [f64], bond: usize, br: usize)
         wide,
         |g, c| complex_at(site, g * wide + c).conj(),
     );
+}
+
+// As many numbers of `from` as `to` holds, from the front. Each by itself: the library's copy of a slice would have the archives
+// for C need `memmove` from outside.
+#[tactic(auto, using(complex::specs::Loops::take_set))]
+pub fn copy_numbers(from: &[f64], to: &mut [f64])
+    requires { length to.old ≤ length from.now }
+    ensures { to.new ≡ take (length to.old) from.now }
+{
+    for (i, x) in to.iter_mut().enumerate() {
+        *x = from[i];
+    }
 }
 
 // ---- to the right

@@ -16,7 +16,7 @@ ghost use Rattle.moves.specs.Ready.{Ready};
 ghost use Rattle.moves.specs.Steps.{SlotsOf, factored_room, Pair, factors_right, factors_left, stored_right, stored_left};
 
 use fills::{fill_columns, fill_rows_conj};
-use gauge::{absorb_left, absorb_right, left_matrix, right_matrix};
+use gauge::{absorb_left, absorb_right, copy_numbers, left_matrix, right_matrix};
 use model::{Bonds, Chain, WeightSide};
 use qr::factorize_gram_schmidt;
 
@@ -101,7 +101,7 @@ fn keep_copy(site: &[f64], work: &mut [f64], q: usize, n: usize)
     ensures work_after { part q (q + n) work.new ≡ take n site.now }
 {
     let e = q + n;
-    work[q..e].copy_from_slice(&site[..n]);
+    copy_numbers(site, &mut work[q..e]);
 }
 
 // ---- what a step writes: the two sites of the pair, from the first q floats of the work slice and the neighbour's copy behind them

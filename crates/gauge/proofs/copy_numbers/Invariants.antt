@@ -1,0 +1,7 @@
+-- The invariant: the first i numbers are those of from.
+use mathlib.Core.Path.{◌≡◌}
+use lib.ListN.{take}
+use Rattle.gauge.proofs.copy_numbers.Given as goal
+
+abbrev pub invariant-loop-i : goal.invariant-loop-i
+invariant-loop-i l = take l.i l.to ≡ take l.i l.from
