@@ -2,7 +2,7 @@
 // whole input is defined in specs/Output.antt, what one piece does in specs/Feeding.antt.
 #![tactic(auto)]
 
-ghost use Rattle.std.specs.Prelude.{◌+◌, ◌≤◌, ◌<◌, true, ◌≡◌, length};
+ghost use Rattle.std.specs.Prelude.{◌+◌, ◌≤◌, ◌<◌, true, ◌≡◌, length, take};
 ghost use Rattle.record.specs.Frames.{whole};
 ghost use Rattle.stream.specs.Feeding.{can_take, if_whole, before, after, fed, new_run, ending, ended};
 
@@ -39,22 +39,32 @@ impl Fed {
         !self.run.stopped && self.run.pending < places && 25 <= room - self.written
     }
 
-    // A record that is whole is done: its step, and its line behind the text that is there.
-    #[tactic(auto, using(crate::proofs::Laws::Turns::waits, crate::proofs::Laws::Turns::line_long, lines::specs::Writing::length_line))]
+    // The record that is there, which is whole: its step, and its line behind the text that is there.
+    #[tactic(auto, using(crate::proofs::Laws::Turns::line_long, lines::specs::Writing::length_line))]
+    fn do_record(&mut self, store: &mut [f64], work: &mut [f64], bytes: &[u8], text: &mut [u8])
+        requires in_bytes { self.old.run.pending ≤ length bytes.now }
+        requires is_whole { whole (take self.old.run.pending bytes.now) ≡ true }
+        requires has_room { self.old.written + 25 ≤ length text.old }
+        ensures { after self.new store.new work.new bytes.now text.new ≡ if_whole (after self.old store.old work.old bytes.now text.old) }
+    {
+        let out = step(self.run.session, store, work, &bytes[..self.run.pending]);
+        self.written += write_line(&mut text[self.written..], out.line);
+        self.run.session = out.session;
+        self.run.stopped = out.line.stops();
+        self.run.pending = 0;
+    }
+
+    // A record that is whole is done. Its step is a function of its own: what a step holds in passing would be laid out anew
+    // for each byte here.
+    #[tactic(auto, using(crate::proofs::Laws::Turns::waits))]
     fn do_if_whole(&mut self, store: &mut [f64], work: &mut [f64], bytes: &[u8], text: &mut [u8])
         requires in_bytes { self.old.run.pending ≤ length bytes.now }
         requires has_room { self.old.written + 25 ≤ length text.old }
         ensures { after self.new store.new work.new bytes.now text.new ≡ if_whole (after self.old store.old work.old bytes.now text.old) }
     {
-        let record = &bytes[..self.run.pending];
-        if !is_whole(record) {
-            return;
+        if is_whole(&bytes[..self.run.pending]) {
+            self.do_record(store, work, bytes, text);
         }
-        let out = step(self.run.session, store, work, record);
-        self.written += write_line(&mut text[self.written..], out.line);
-        self.run.session = out.session;
-        self.run.stopped = out.line.stops();
-        self.run.pending = 0;
     }
 }
 
