@@ -6,7 +6,6 @@
 
 ghost use Rattle.std.specs.Prelude.{◌≡◌};
 ghost use Rattle.model.specs.Slots.{held};
-ghost use Rattle.model.specs.Start.{zero_chain};
 ghost use Rattle.model.specs.Calls.{after, started, walked, start_call, gate_call, named_gate_call, layer_call, project_call, measure_call, reset_call, left_environment_call, right_environment_call};
 
 use accepted::{
@@ -25,34 +24,25 @@ use sound::is_share;
 
 // ---- the fresh chain
 
-// What start answers and leaves of the all-zero record.
-#[tactic(auto, using(crate::specs::Ends::start_ends, crate::specs::Ends::start_refused, std::proofs::lemmas::Result::err_from_is_err_and))]
-fn try_start(
-    chain: &mut Chain,
-    n: usize,
-    d: usize,
-    epsilon: f64,
-    clamp: f64,
-    exponent: u8,
-    store: &mut [f64],
-) -> Answer
-    requires { chain.old ≡ zero_chain }
-    ensures { started result chain.new store.new ≡ start_call n d epsilon clamp exponent store.old }
-{
-    let fresh = fresh_chain(n, d, epsilon, clamp, exponent);
-    start_refusal(&fresh, store.len())?;
-    fresh_store(store, n, d);
-    *chain = fresh;
-    Ok(())
-}
-
-// A fresh chain of n qubits under the cap d.
+// A fresh chain of n qubits under the cap d. One record is made, and the all-zero one only where the start is refused.
+#[tactic(auto, using(crate::specs::Ends::start_ends, crate::specs::Ends::start_refused))]
 pub fn start(n: usize, d: usize, epsilon: f64, clamp: f64, exponent: u8, store: &mut [f64]) -> Start
     ensures { started result.answer result.chain store.new ≡ start_call n d epsilon clamp exponent store.old }
 {
-    let mut chain = zero_chain();
-    let answer = try_start(&mut chain, n, d, epsilon, clamp, exponent, store);
-    After { answer, chain }
+    let fresh = fresh_chain(n, d, epsilon, clamp, exponent);
+    match start_refusal(&fresh, store.len()) {
+        Ok(()) => {
+            fresh_store(store, n, d);
+            After {
+                answer: Ok(()),
+                chain: fresh,
+            }
+        }
+        Err(number) => After {
+            answer: Err(number),
+            chain: zero_chain(),
+        },
+    }
 }
 
 // ---- gates
