@@ -47,17 +47,12 @@ digit_le t c b (inl w) = rw w.1 (omega arith, omega arith)
 digit_le t c b (inr w) = rw w.1 (omega arith, omega (arith, w.0))
 
 -- the digit that a turn finds
-digit : (t c : ℕ) → Digit t c (bool_byte (leb c t))
+pub digit : (t c : ℕ) → Digit t c (bool_byte (leb c t))
 digit t c = elim (leb_tells c t) [ inl w ↦ inr (w.1, rw w.0 refl) | inr w ↦ inl (w.1, rw w.0 refl) ]
 
-pub turn : {s n j s' q r : ℕ} → After s n j s' q r → let t = 4 * r + s' / 2 ^ 62 in let c = 4 * q + 1 in let b = bool_byte (leb c t) in After s n (j + 1) (s' * 2 ^ 2 % 2 ^ 64) (2 * q + b) (t - b * c)
-turn {s} {n} {j} {s'} {q} {r} A =
-    let t = 4 * r + s' / 2 ^ 62 in
-    let c = 4 * q + 1 in
-    let b = bool_byte (leb c t) in
-    let D = digit t c in
-    record {
-      word = ap (λ (x : ℕ). x * 2 ^ 2 % 2 ^ 64) A.word ∙ next_word j s;
-      few = next_few j q b (digit_le t c b D).0 A.few;
-      found = subst (λ (x : ℕ). RootRest x (2 * q + b) (t - b * c)) (ap (λ (x : ℕ). 4 * fed j s n + x / 2 ^ 62) A.word ∙ sym (next_fed j s n)) (next_root (fed j s n) q r (s' / 2 ^ 62) b A.found (omega (arith, A.word)) D);
-    }
+pub turn : {s n j s' q r b : ℕ} → After s n j s' q r → Digit (4 * r + s' / 2 ^ 62) (4 * q + 1) b → After s n (j + 1) (s' * 2 ^ 2 % 2 ^ 64) (2 * q + b) (4 * r + s' / 2 ^ 62 - b * (4 * q + 1))
+turn {s} {n} {j} {s'} {q} {r} {b} A D = record {
+  word = ap (λ (x : ℕ). x * 2 ^ 2 % 2 ^ 64) A.word ∙ next_word j s;
+  few = next_few j q b (digit_le (4 * r + s' / 2 ^ 62) (4 * q + 1) b D).0 A.few;
+  found = subst (λ (x : ℕ). RootRest x (2 * q + b) (4 * r + s' / 2 ^ 62 - b * (4 * q + 1))) (ap (λ (x : ℕ). 4 * fed j s n + x / 2 ^ 62) A.word ∙ sym (next_fed j s n)) (next_root (fed j s n) q r (s' / 2 ^ 62) b A.found (omega (arith, A.word)) D);
+}
