@@ -19,7 +19,7 @@ use Rattle.session.specs.Session.{Left, stop_line, obeys, step_of}
 use Rattle.session.proofs.Laws.Promises.{promised}
 use Rattle.stream.specs.Output.{stops, lines_from, text_of_lines}
 use Rattle.stream.specs.Feeding.{record_done, Feeding, feeding, in_progress, with_byte, if_whole, can_take, takes, fed, run_of, ended, text_so_far, to_come, Underway}
-use Rattle.stream.proofs.Laws.Turns.{taking}
+use Rattle.stream.proofs.Laws.Turns.{takes_when}
 use Rattle.stream.specs.Pieces.{OneByte, Kept, end_text}
 
 -- ---- a run between two pieces
@@ -63,7 +63,7 @@ module _ (f : Feeding) (u : Underway f) (b : ℕ) (h : takes f ≡ true) where
   next = with_byte f b
 
   goes : (f.progress.stopped ≡ false) × (f.pending < length f.bytes) × (f.progress.written + line_room ≤ length f.progress.text)
-  goes = taking f h
+  goes = takes_when f h
 
   mid : whole (in_progress next) ≡ false → OneByte f next b
   mid w = record {

@@ -1,5 +1,5 @@
 -- Laws of feeding: what each byte does, and when none is taken.
-use Rattle.std.specs.Prelude.{ℕ, ◌+◌, ◌-◌, ◌≤◌, ◌<◌, ◌≡◌, Bool, true, false, not, ◌&&◌, T, ltb, leb, Float}
+use Rattle.std.specs.Prelude.{ℕ, ◌+◌, ◌-◌, ◌≤◌, ◌<◌, ◌≡◌, Bool, true, false, ◌&&◌, T, ltb, leb, Float}
 use Rattle.std.proofs.Math.Path.{refl, sym, ap}
 use Rattle.std.proofs.Common.{subst, ◌∙◌, inl, inr, ◌⊎◌, add-one, arith, le-leb, le-ltb, ltb-true, leb-true, leb-false, length-append, length-drop, drop_of_length-le, take_all, drop-cons}
 use Rattle.std.proofs.Math.Bool.{cond}
@@ -102,16 +102,18 @@ module _ (r : Run) (text : List ℕ) where
 -- ---- bytes
 
 -- what the test says where it holds
-pub taking : (f : Feeding) → takes f ≡ true → (f.progress.stopped ≡ false) × (f.pending < length f.bytes) × (f.progress.written + line_room ≤ length f.progress.text)
+pub taking : (stopped : Bool) (pending places written room : ℕ) (t : Bool) → t ≡ can_take stopped pending places written room → t ≡ true → (stopped ≡ false) × (pending < places) × (written + line_room ≤ room)
 unfolding can_take
-taking f = by f.progress.stopped (ltb f.pending (length f.bytes)) refl (leb line_room (length f.progress.text - f.progress.written)) refl
+taking true pending places written room t et e = absurd (subst T (sym e ∙ et) tt)
+taking false pending places written room t et e = by (ltb pending places) refl (leb line_room (room - written)) refl (sym et ∙ e)
   where
-    by : (stopped places : Bool) → ltb f.pending (length f.bytes) ≡ places → (room : Bool) → leb line_room (length f.progress.text - f.progress.written) ≡ room → (not stopped && (places && room)) ≡ true
-        → (stopped ≡ false) × (f.pending < length f.bytes) × (f.progress.written + line_room ≤ length f.progress.text)
-    by true places p room r e = absurd (subst T (sym e) tt)
-    by false false p room r e = absurd (subst T (sym e) tt)
-    by false true p false r e = absurd (subst T (sym e) tt)
-    by false true p true r e = (refl, ltb-true f.pending (length f.bytes) p, omega (arith, leb-true line_room (length f.progress.text - f.progress.written) r))
+    by : (s : Bool) → ltb pending places ≡ s → (t : Bool) → leb line_room (room - written) ≡ t → (s && t) ≡ true → (false ≡ false) × (pending < places) × (written + line_room ≤ room)
+    by true a true b e = (refl, ltb-true pending places a, omega (arith, leb-true line_room (room - written) b))
+    by true a false b e = absurd (subst T (sym e) tt)
+    by false a t b e = absurd (subst T (sym e) tt)
+
+pub takes_when : (f : Feeding) → takes f ≡ true → (f.progress.stopped ≡ false) × (f.pending < length f.bytes) × (f.progress.written + line_room ≤ length f.progress.text)
+takes_when f = taking f.progress.stopped f.pending (length f.bytes) f.progress.written (length f.progress.text) (takes f) refl
 
 -- a line that had room ends within the text
 pub line_within : (p q : Progress) (r : List ℕ) → p ≡ record_done q r → q.written + line_room ≤ length q.text → p.written ≤ length p.text
@@ -160,7 +162,7 @@ fed_within f (b ∷ bs) h = by (λ m k. fed_within m bs k) (takes f) refl
   where
     by : ((m : Feeding) → m.progress.written ≤ length m.progress.text → (fed m bs).progress.written ≤ length (fed m bs).progress.text) → (t : Bool) → takes f ≡ t
         → (cond t (fed (if_whole (with_byte f b)) bs) f).progress.written ≤ length (cond t (fed (if_whole (with_byte f b)) bs) f).progress.text
-    by k true e = k (if_whole (with_byte f b)) (whole_within (with_byte f b) (if_whole (with_byte f b)) refl (taking f e).2).1
+    by k true e = k (if_whole (with_byte f b)) (whole_within (with_byte f b) (if_whole (with_byte f b)) refl (takes_when f e).2).1
     by k false e = h
 
 pub ended_within : (r : Run) (text : List ℕ) → (ended r text).written ≤ length (ended r text).text
