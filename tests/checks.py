@@ -131,27 +131,63 @@ def chain_offers_the_calls_alone():
     return [f"chain has the public {n}" for n in sorted(public - CALLS)] + [f"chain has no {n}" for n in sorted(CALLS - public)]
 
 
+def source(crate):
+    """The text of a crate without its comments."""
+    return "\n".join(re.sub(r"//.*", "", path.read_text()) for path in sorted((CRATES / crate / "src").glob("**/*.rt")))
+
+
 def functions(crate):
-    """The functions and methods of a crate by name, each as its head and, from the brace that ends the head on, its body. No comments."""
-    out = {}
-    for path in sorted((CRATES / crate / "src").glob("**/*.rt")):
-        code = re.sub(r"//.*", "", path.read_text())
-        for m in re.finditer(r"^( *)((?:pub )?(?:extern \"C\" )?fn (\w+).*?)((?:^\1\{| \{$)$.*?^\1\}$)", code, re.M | re.S):
-            out[m[3]] = m[2], m[4]
+    """A crate's functions as `name` and its methods as `Type::name`, each as its head and, from the brace that ends the head on, its
+    body. Those of one name are taken together."""
+    out, owner = {}, ""
+    block = r"^impl[^\n]*?(\w+)(?:<[^\n>]*>)? \{$"
+    function = r"^( *)((?:\S[^\n]* )?fn (\w+).*?)((?:^\2\{| \{$)$.*?^\2\}$)"
+    for m in re.finditer(f"{block}|{function}", source(crate), re.M | re.S):
+        if m[1]:
+            owner = f"{m[1]}::"
+        else:
+            name = owner + m[4] if m[2] else m[4]
+            head, body = out.get(name, ("", ""))
+            out[name] = head + m[3], body + m[5]
+    return out
+
+
+# A call, as the field that it is made on, the dot or the path's last word before it, and its name.
+CALL = r"(?:(?:\.(\w+))?(\.)|(\w+)::(?:<[^()]*>::)?)?\b(\w+)(?:::<[^()]*>)?\("
+
+
+def calls(crate):
+    """A crate's functions and methods, each with those of them that it calls. `.g(` calls every method g of the crate, whatever stands
+    before the dot; but on a field it calls none unless a type of the crate is named where the field is: in pair, `conj` of a block
+    calls that of its complex numbers. `Type::g(` calls that type's, and `g(`, alone or behind a module of the crate, the function g."""
+    code, texts, out = source(crate), functions(crate), {}
+    # a name of one letter is a parameter, which may stand for a type of the crate
+    types = "|".join(["Self", "[A-Z]", *re.findall(r"\b(?:struct|enum|trait|type) (\w+)", code)])
+    fields = re.findall(r"^ +(?:pub\S* )?(\w+): (.*),$", code, re.M)
+    others = {f for f, _ in fields} - {f for f, named in fields if re.search(rf"\b({types})\b", named)}
+    modules = {"", "crate", "self", "super", *re.findall(r"\bmod (\w+)", code)}
+    for f, (_, body) in texts.items():
+        out[f] = set()
+        for field, dot, path, g in re.findall(CALL, body):
+            if dot:
+                out[f] |= {h for h in texts if h.endswith(f"::{g}") and field not in others}
+            else:
+                owner = f.rpartition("::")[0] if path == "Self" else path
+                out[f] |= {g if path in modules else f"{owner}::{g}"} & set(texts)
     return out
 
 
 def nothing_calls_itself(crates):
-    """Neither directly nor through others: within a crate, since crates stand one on another. A method is called on `self`."""
+    """Neither directly nor through others: within a crate, since crates stand one on another. And each function is seen."""
     out = []
     for crate in crates:
-        texts = functions(crate)
-        call = r"(?:(?<![\w.:])|(?<=\bself\.)|(?<=\bSelf::)){}(?:::<[^>]*>)?\("
-        calls = {f: {g for g in texts if re.search(call.format(g), body)} for f, (_, body) in texts.items()}
-        for f in calls:
+        called = calls(crate)
+        hidden = set(re.findall(r"\bfn (\w+)", source(crate))) - {f.rpartition("::")[2] for f in called}
+        out += [f"{crate}::{f} is not seen" for f in sorted(hidden)]
+        for f in called:
             reached, todo = set(), {f}
             while todo:
-                todo = set().union(*(calls[g] for g in todo)) - reached
+                todo = set().union(*(called[g] for g in todo)) - reached
                 reached |= todo
             out += [f"{crate}::{f} calls itself"] if f in reached else []
     return out
@@ -161,7 +197,7 @@ def loops_of_the_root_call_nothing():
     """So the number of calls that a root makes is a constant."""
     loop = r"^( +)(?:for|while|\S.*\bloop|loop)\b.*?^\1\}"
     loops = [(f, m.group(0)) for f, (_, body) in functions("root").items() for m in re.finditer(loop, body, re.M | re.S)]
-    return [f"a loop of root::{f} calls {g}" for f, text in loops for g in re.findall(r"\w+(?=\()", text)] + ([] if loops else ["root has no loop"])
+    return [f"a loop of root::{f} calls {g}" for f, text in loops for *_, g in re.findall(CALL, text)] + ([] if loops else ["root has no loop"])
 
 
 # The forms that document 01 requires: crate, function, what its text has to hold. docs/DECISIONS.md has the same table.
