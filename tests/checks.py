@@ -54,14 +54,19 @@ def internal_crates_stay_inside(crates):
 
 
 def public_functions_require_nothing():
+    """Nor do operators and other methods of a trait: what one asks is its requires, or an item `can_..` of the impl."""
     out = []
     for path in sorted(CRATES.glob("*/src/**/*.rt")):
         if path.relative_to(CRATES).parts[0] in INTERNAL:
             continue
+        code = path.read_text()
         # a function's head goes to the brace that begins or ends a line
-        for m in re.finditer(r"^\s*pub (?:extern \"C\" )?fn (\w+).*?(?:^\{| \{$)", path.read_text(), re.M | re.S):
+        for m in re.finditer(r"^\s*pub (?:extern \"C\" )?fn (\w+).*?(?:^\{| \{$)", code, re.M | re.S):
             if "requires" in m.group(0) and m.group(1) not in MAY_REQUIRE:
                 out.append(f"{path.relative_to(TOP)}: {m.group(1)} has a requires")
+        for m in re.finditer(r"^(impl\b[^\n]* for [^\n]*) \{$.*?^\}$", code, re.M | re.S):
+            if re.search(r"\brequires\b|\bghost can_", m.group(0)):
+                out.append(f"{path.relative_to(TOP)}: {m.group(1)} asks something")
     return out
 
 
