@@ -183,7 +183,8 @@ def calls(crate):
 
 
 def nothing_calls_itself(crates):
-    """Neither directly nor through others: within a crate, since crates stand one on another. And each function is seen."""
+    """Neither directly nor through others: within a crate, since crates stand one on another. And each function is seen. An operator,
+    and a function that is handed on by its name, are no calls here."""
     out = []
     for crate in crates:
         called = calls(crate)
