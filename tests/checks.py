@@ -160,19 +160,27 @@ def functions(crate):
 # A call, as the field that it is made on, the dot or the path's last word before it, and its name.
 CALL = r"(?:(?:\.(\w+))?(\.)|(\w+)::(?:<[^()]*>::)?)?\b(\w+)(?:::<[^()]*>)?\("
 
+# Operators, each with the methods that it may call.
+OPERATORS = {r"\+": {"add", "add_assign"}, "-": {"sub", "sub_assign", "neg"}, r"\*": {"mul", "mul_assign"}, "/": {"div", "div_assign"}}
+
 
 def calls(crate):
     """A crate's functions and methods, each with those of them that it calls. `.g(` calls every method g of the crate, whatever stands
     before the dot; but on a field it calls none unless a type of the crate is named where the field is: in pair, `conj` of a block
-    calls that of its complex numbers. `Type::g(` calls that type's, and `g(`, alone or behind a module of the crate, the function g."""
+    calls that of its complex numbers. `Type::g(` calls that type's, and `g(`, alone or behind a module of the crate, the function g. An
+    operator beside `self` or a parameter of the crate's types calls its methods."""
     code, texts, out = source(crate), functions(crate), {}
     # a name of one letter is a parameter, which may stand for a type of the crate
     types = "|".join(["Self", "[A-Z]", *re.findall(r"\b(?:struct|enum|trait|type) (\w+)", code)])
     fields = re.findall(r"^ +(?:pub\S* )?(\w+): (.*),$", code, re.M)
     others = {f for f, _ in fields} - {f for f, named in fields if re.search(rf"\b({types})\b", named)}
     modules = {"", "crate", "self", "super", *re.findall(r"\bmod (\w+)", code)}
-    for f, (_, body) in texts.items():
+    for f, (head, body) in texts.items():
         out[f] = set()
+        own = "|".join(["self", *re.findall(rf"\b(\w+): &?(?:mut )?(?:{types})\b", head)])
+        for sign, methods in OPERATORS.items():
+            if re.search(rf"\b(?:{own})\s*{sign}|{sign}=?\s*(?:{own})\b(?!\.)", body):
+                out[f] |= {h for h in texts if h.rpartition("::")[2] in methods and "::" in h}
         for field, dot, path, g in re.findall(CALL, body):
             if dot:
                 out[f] |= {h for h in texts if h.endswith(f"::{g}") and field not in others}
@@ -183,8 +191,8 @@ def calls(crate):
 
 
 def nothing_calls_itself(crates):
-    """Neither directly nor through others: within a crate, since crates stand one on another. And each function is seen. An operator,
-    and a function that is handed on by its name, are no calls here."""
+    """Neither directly nor through others: within a crate, since crates stand one on another. And each function is seen. A function
+    that is handed on by its name is no call here."""
     out = []
     for crate in crates:
         called = calls(crate)
