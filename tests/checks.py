@@ -192,7 +192,7 @@ def calls(crate):
 
 def nothing_calls_itself(crates):
     """Neither directly nor through others: within a crate, since crates stand one on another. And each function is seen. A function
-    that is handed on by its name is no call here."""
+    that is handed on by its name, and an operator beside a local name, are no calls here."""
     out = []
     for crate in crates:
         called = calls(crate)
