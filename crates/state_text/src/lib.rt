@@ -11,7 +11,7 @@ use model::Chain;
 use std::io;
 use std::io::Write;
 
-// How many numbers are written at once: each write is a call of the system, whose time is most of a state's.
+// How many numbers are written at once: on standard output each write is a call of the system.
 const AT_ONCE: usize = 16;
 
 // The bits of a few numbers, a space before each.
